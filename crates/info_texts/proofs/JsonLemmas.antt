@@ -8,9 +8,7 @@ use Rattle.std.proofs.lemmas.List.{take_more}
 use Rattle.std.proofs.lemmas.Str.Pattern.{starts_text}
 use Rattle.ts_bits.specs.TaggedBody.{TaggedBody}
 use Rattle.plugin_notes.specs.PidPackets.{numbers_below}
-use Rattle.info_texts.specs.InfoJson.{behind_comma, joined, language_at, languages_in, languages_of}
-use Rattle.info_texts.specs.InfoTexts.{language_step}
-use Rattle.info_texts.specs.JsonItems.{items_of}
+use Rattle.info_texts.specs.InfoJson.{behind_comma, joined}
 
 -- items without the first comma
 dropped : (texts : List (List ℕ)) → drop 1 (flat_map behind_comma texts) ≡ joined texts
@@ -27,15 +25,10 @@ unstripped s [] h is = is
 unstripped s (text ∷ texts) h is =
     absurd (true≢false (sym (starts_text false (codes ",") s h ∙ ap (λ (z : List ℕ). starts_with eqb z (codes ",")) is)))
 
+-- a `flat_map` of a `flat_map`
 pub flat_flat : {X Y Z : Type 0} (g : Y → List Z) (f : X → List Y) (xs : List X) → flat_map (λ x. flat_map g (f x)) xs ≡ flat_map g (flat_map f xs)
 flat_flat g f [] = refl
 flat_flat g f (x ∷ xs) = ap (λ zs. flat_map g (f x) ++ zs) (flat_flat g f xs) ∙ sym (flat_map-append g (f x) (flat_map f xs))
-
-pub languages_flat : (ds : List TaggedBody) → flat_map items_of ds ≡ flat_map behind_comma (languages_of ds)
-languages_flat [] = refl
-languages_flat (d ∷ ds) =
-    ap₂ (λ (xs ys : List ℕ). xs ++ ys) (flat_flat behind_comma (language_at (language_step d.tag) d.body) (numbers_below (length d.body))) (languages_flat ds)
-    ∙ sym (flat_map-append behind_comma (languages_in d) (languages_of ds))
 
 -- a text with one more item
 pub item_more : {X : Type 0} (f : X → List ℕ) (xs ys : List X) (x : X) (old now new item : List ℕ) → ys ≡ xs ++ x ∷ [] → item ≡ f x → now ≡ old ++ flat_map f xs

@@ -2,4 +2,5 @@
 pub mod LineLemmas
 pub mod RoundLemmas
 pub mod JsonLemmas
+pub mod PlainLemmas
 mod Rows

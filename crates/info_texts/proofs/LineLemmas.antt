@@ -1,8 +1,11 @@
 -- Lemmas on texts that grow, and on the parts of lines.
 use Rattle.std.proofs.Common.{◌≡◌, ℕ, ◌+◌, List, [], ◌∷◌, ◌++◌, ap, sym, ◌∙◌, append_assoc, append-nil, codes}
 use Rattle.std.specs.Fmt.{decimal}
+use Rattle.std.specs.Prelude.{fold}
 use Rattle.std.specs.List.{flat_map}
 use Rattle.std.proofs.lemmas.Grind.{flat_map-append}
+use Rattle.std.proofs.lemmas.List.Sums.{fold-append}
+use Rattle.info_texts.specs.Marks.{with_new}
 use Rattle.plugin_notes.specs.PidPackets.{numbers_below}
 use Rattle.plugin_notes.proofs.PidLemmas.{numbers_below_more}
 
@@ -12,11 +15,12 @@ flat_more f n =
     ap (λ xs. flat_map f (numbers_below n) ++ xs) (sym (append-nil (f n)))
     ∙ (sym (flat_map-append f (numbers_below n) (n ∷ [])) ∙ ap (flat_map f) (sym (numbers_below_more n)))
 
--- a text with one more number
-pub text_more : {X : Type 0} (f : ℕ → List X) (n : ℕ) (old now new : List X) → now ≡ old ++ flat_map f (numbers_below n) → new ≡ now ++ f n
-    → new ≡ old ++ flat_map f (numbers_below (n + 1))
-text_more f n old now new so_far pushed =
-    pushed ∙ (ap (λ xs. xs ++ f n) so_far ∙ (append_assoc old (flat_map f (numbers_below n)) (f n) ∙ ap (λ xs. old ++ xs) (flat_more f n)))
+-- texts, of equal ones the first, with those of one more number
+pub new_more : (f : ℕ → List (List ℕ)) (n : ℕ) (old now new : List (List ℕ)) → now ≡ fold with_new old (flat_map f (numbers_below n))
+    → new ≡ fold with_new now (f n) → new ≡ fold with_new old (flat_map f (numbers_below (n + 1)))
+new_more f n old now new so_far pushed =
+    pushed ∙ (ap (λ (texts : List (List ℕ)). fold with_new texts (f n)) so_far
+    ∙ (sym (fold-append with_new old (flat_map f (numbers_below n)) (f n)) ∙ ap (fold with_new old) (flat_more f n)))
 
 -- the first half of the stream's line, each part of which is known
 head_parts : ℕ → ℕ → List ℕ → List ℕ → List ℕ

@@ -5,10 +5,29 @@ use Rattle.hex.specs.Hex.{encode_with}
 use Rattle.std.specs.Str.{chars, is_utf8}
 use lib.Utf8.{encode}
 use Rattle.plugin_notes.specs.PidPackets.{numbers_below}
-use Rattle.info_texts.specs.InfoJson.{array, bytes_field, component_json, stream_json, type_json, whole_json}
-use Rattle.info_texts.specs.InfoTexts.{component_text, hundredths, percent, pid_text, portion_text, rate_part, rate_text, sdt_texts, service_head, service_tail, shown, stream_text, type_text}
+use Rattle.ts_bits.specs.TaggedBody.{TaggedBody}
+use Rattle.ts_fields.specs.Texts.{text_of}
+use Rattle.info_texts.specs.InfoJson.{array, bytes_field, component_json, component_marks, stream_json, text_or_hex, type_json, whole_json}
+use Rattle.info_texts.specs.InfoTexts.{component_text, hundredths, marks_text, percent, pid_text, portion_text, rate_part, rate_text, sdt_texts, service_head, service_tail, shown, stream_text, type_text}
 use Rattle.info_texts.specs.Rounding.{rounded}
 use Rattle.info_texts.specs.ServiceNames.{name_in}
+
+-- a language and a codec stand once, and four letters of a registration_descriptor count where a line can have them
+abbrev marked : List TaggedBody
+marked = record { tag = 0x05; body = codes "Opus" } ∷ record { tag = 0x7F; body = 0x15 ∷ [] } ∷ record { tag = 0x7F; body = 0x15 ∷ 0 ∷ [] }
+    ∷ record { tag = 0x0A; body = codes "eng" ++ (3 ∷ (codes "eng" ++ (0 ∷ (codes "fra" ++ (0 ∷ []))))) } ∷ []
+
+marks-row : marks_text marked ≡ codes " codec Opus codec AC-4 language \"eng\" language \"fra\""
+unfolding numbers_below
+marks-row = refl
+
+marks-json : component_marks marked ≡ codes ",\"languages\":[\"eng\",\"fra\"],\"codecs\":[\"Opus\",\"AC-4\"],"
+unfolding numbers_below chars encode
+marks-json = refl
+
+marks-none : marks_text (record { tag = 0x05; body = codes "a\"bc" } ∷ record { tag = 0x05; body = codes "AC" } ∷ record { tag = 0x7F; body = [] } ∷ []) ≡ []
+unfolding numbers_below
+marks-none = refl
 
 -- two thirds are nearer to 1, a third to 0, and a half is rounded up
 rounded-up : rounded 2 3 ≡ 1
@@ -55,6 +74,15 @@ other-row = refl
 quote-row : shown (codes "a\"b") ≡ codes "0x612262"
 unfolding encode_with
 quote-row = refl
+
+-- U+009B, with which a terminal's commands begin, and U+00A0, which is no control character
+control-row : shown (0x15 ∷ 0xC2 ∷ 0x9B ∷ 0x4A ∷ []) ≡ codes "0x15c29b4a"
+unfolding encode_with is_utf8 chars encode
+control-row = refl
+
+space-row : shown (0x15 ∷ 0xC2 ∷ 0xA0 ∷ []) ≡ 0x22 ∷ 0xC2 ∷ 0xA0 ∷ 0x22 ∷ []
+unfolding is_utf8 chars encode
+space-row = refl
 
 -- a service_descriptor, and one whose name is truncated
 abbrev body : List ℕ
@@ -112,7 +140,7 @@ unfolding digits rounded
 component-row = refl
 
 pid-row : pid_text 17 (codes "SDT") (portion_text (record { whole = 8; extent = 8; rate = None }) 1) (record { packets = 1; scrambled = 0; faults = 0 })
-    ≡ codes "pid 17 (SDT) packets 1 share 12.50% bitrate none scrambled 0 faults 0"
+    ≡ codes "pid 17 (SDT, BAT) packets 1 share 12.50% bitrate none scrambled 0 faults 0"
 unfolding digits rounded
 pid-row = refl
 
@@ -131,17 +159,26 @@ array-none = refl
 array-two : array (codes "1" ∷ codes "2" ∷ []) ≡ codes "[1,2]"
 array-two = refl
 
--- a name that is a text, bytes in another character table, a quotation mark, and no name
+-- a name that is a text, bytes in another character table, a quotation mark, a backslash, a control character, and no name
 json-plain : bytes_field (codes "name") (Some (codes "BBC 1")) ≡ codes "\"name\":\"BBC 1\""
+unfolding chars encode
 json-plain = refl
 
 json-other : bytes_field (codes "name") (Some (0x05 ∷ 0x41 ∷ [])) ≡ codes "\"name_hex\":\"0541\""
 unfolding encode_with
 json-other = refl
 
-json-quote : bytes_field (codes "name") (Some (codes "a\"b")) ≡ codes "\"name_hex\":\"612262\""
-unfolding encode_with
+json-quote : bytes_field (codes "name") (Some (codes "a\"b")) ≡ codes "\"name\":\"a\\\"b\""
+unfolding is_utf8 chars encode
 json-quote = refl
+
+json-backslash : text_or_hex (codes "a\\b") (text_of (codes "a\\b")) ≡ codes "\"a\\\\b\""
+unfolding is_utf8 chars encode
+json-backslash = refl
+
+json-control : bytes_field (codes "name") (Some (0x15 ∷ 0xC2 ∷ 0x80 ∷ [])) ≡ codes "\"name_hex\":\"15c280\""
+unfolding encode_with is_utf8 chars encode
+json-control = refl
 
 json-none : bytes_field (codes "name") None ≡ codes "\"name\":null"
 json-none = refl
@@ -161,7 +198,7 @@ json-type_none = refl
 -- a component with a language and no codec, which two services have, without a rate
 json-component : component_json (record { whole = 8; extent = 8; rate = None }) 256 3 (record { tag = 0x0A; body = codes "eng" ++ (0 ∷ []) } ∷ []) (record { packets = 4; scrambled = 1; faults = 2 }) 2
     ≡ codes "{\"pid\":256,\"stream_type\":3,\"stream_type_name\":\"MPEG-1 audio\",\"languages\":[\"eng\"],\"codecs\":[],\"packets\":4,\"bitrate\":null,\"scrambled\":1,\"faults\":2,\"services\":2}"
-unfolding digits numbers_below
+unfolding digits numbers_below chars encode
 json-component = refl
 
 -- a stream without tables

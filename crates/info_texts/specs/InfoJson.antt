@@ -1,15 +1,17 @@
 -- The texts of `info --json`. RFC 8259 defines the form of objects, arrays, numbers and strings; the keys and their
 -- order are this project's own.
-use Rattle.std.specs.Prelude.{ℕ, ◌*◌, List, [], ◌∷◌, ◌++◌, length, take, drop, Option, None, Some, codes, if◌then◌else◌}
-use Rattle.std.specs.List.{flat_map, list_all}
+use Rattle.std.specs.Prelude.{ℕ, ◌*◌, List, [], ◌∷◌, ◌++◌, map, Option, None, Some, codes, if◌then◌else◌}
+use Rattle.std.specs.List.{flat_map}
 use Rattle.std.specs.Fmt.{decimal}
 use Rattle.hex.specs.Hex.{encode_lower}
 use Rattle.ts_bits.specs.TaggedBody.{TaggedBody}
 use Rattle.ts_fields.specs.Texts.{text_of}
 use Rattle.ts_packet.specs.declared.numbers.TheConstants.{PACKET_SIZE}
 use Rattle.plugin_notes.specs.PidPackets.{numbers_below}
-use Rattle.info_texts.specs.InfoNames.{codec_names, service_type_names, stream_type_names, text_for}
-use Rattle.info_texts.specs.InfoTexts.{hex_text, is_entry, is_plain, language_step, rate_part}
+use Rattle.info_texts.specs.InfoNames.{service_type_names, stream_type_names, text_for}
+use Rattle.info_texts.specs.InfoTexts.{hex_text, rate_part}
+use Rattle.info_texts.specs.Marks.{codecs_of, languages_of}
+use Rattle.info_texts.specs.PlainTexts.{escaped, is_harmless}
 use Rattle.info_texts.specs.ServiceNames.{name_in, provider_in, type_in}
 use Rattle.info_texts.specs.declared.pid_numbers.PidNumbers.{PidNumbers}
 use Rattle.info_texts.specs.declared.scene.Scene.{Scene}
@@ -46,11 +48,11 @@ name_or_null (Some name) = quoted name
 abbrev pub hex_field : List ℕ → List ℕ → List ℕ
 hex_field key bytes = codes "\"" ++ (key ++ (codes "_hex\":\"" ++ (encode_lower bytes ++ codes "\"")))
 
--- `"<key>":"<text>"`, if the bytes are a text and all its bytes are plain, else their digits
+-- `"<key>":"<text>"`, if the bytes are a text without control characters, else their digits
 abbrev pub text_field : List ℕ → List ℕ → Option (List ℕ) → List ℕ
 text_field key bytes None = hex_field key bytes
 text_field key bytes (Some text) =
-    if list_all is_plain text then codes "\"" ++ (key ++ (codes "\":\"" ++ (text ++ codes "\""))) else hex_field key bytes
+    if is_harmless text then codes "\"" ++ (key ++ (codes "\":\"" ++ (escaped text ++ codes "\""))) else hex_field key bytes
 
 -- the same, or `"<key>":null` if there are no bytes
 abbrev pub bytes_field : List ℕ → Option (List ℕ) → List ℕ
@@ -61,10 +63,10 @@ bytes_field key (Some bytes) = text_field key bytes (text_of bytes)
 abbrev pub quoted_hex : List ℕ → List ℕ
 quoted_hex bytes = quoted (hex_text bytes)
 
--- bytes in quotation marks: as a text, if they are one and all its bytes are plain, else as digits after `0x`
+-- bytes in quotation marks: as a text, if they are one without control characters, else as digits after `0x`
 abbrev pub text_or_hex : List ℕ → Option (List ℕ) → List ℕ
 text_or_hex bytes None = quoted_hex bytes
-text_or_hex bytes (Some text) = if list_all is_plain text then quoted text else quoted_hex bytes
+text_or_hex bytes (Some text) = if is_harmless text then quoted (escaped text) else quoted_hex bytes
 
 -- the bit rate of some packets among these positions, or `null`
 abbrev pub rate_json : Option ℕ → ℕ → ℕ → List ℕ
@@ -113,32 +115,9 @@ service_tail pmt pcr portion components = codes ",\"pmt\":" ++ (decimal pmt ++ (
 abbrev pub service_json : ℕ → ℕ → Option (List ℕ) → Option ℕ → List ℕ → List ℕ → List ℕ
 service_json id pmt body pcr portion components = service_head id body ++ service_tail pmt pcr portion components
 
--- the language at an offset of a descriptor's body: the first three bytes of an entry
-abbrev pub language_at : ℕ → List ℕ → ℕ → List (List ℕ)
-language_at step body place =
-    let bytes = take 3 (drop place body) in
-    if is_entry step (length body) place then text_or_hex bytes (text_of bytes) ∷ [] else []
-
--- the languages of a descriptor
-abbrev pub languages_in : TaggedBody → List (List ℕ)
-languages_in d = flat_map (language_at (language_step d.tag) d.body) (numbers_below (length d.body))
-
--- the languages of a list of descriptors
-abbrev pub languages_of : List TaggedBody → List (List ℕ)
-languages_of ds = flat_map languages_in ds
-
--- the codec that a descriptor names, if it names one
-abbrev pub named_codec : Option (List ℕ) → List (List ℕ)
-named_codec None = []
-named_codec (Some name) = quoted name ∷ []
-
--- the codec that a descriptor names by its tag
-abbrev pub codec_in : TaggedBody → List (List ℕ)
-codec_in d = named_codec (text_for codec_names d.tag)
-
--- the codecs of a list of descriptors
-abbrev pub codecs_of : List TaggedBody → List (List ℕ)
-codecs_of ds = flat_map codec_in ds
+-- a language: as a text, if its bytes are one without control characters, else as digits after `0x`
+abbrev pub language_json : List ℕ → List ℕ
+language_json code = text_or_hex code (text_of code)
 
 -- `{"pid":<pid>,"stream_type":<n>,"stream_type_name":<name>`
 abbrev pub component_head : ℕ → ℕ → List ℕ
@@ -147,7 +126,8 @@ component_head pid kind = codes "{\"pid\":" ++ (decimal pid ++ (codes ",\"stream
 
 -- `,"languages":<array>,"codecs":<array>,`
 abbrev pub component_marks : List TaggedBody → List ℕ
-component_marks ds = codes ",\"languages\":" ++ (array (languages_of ds) ++ (codes ",\"codecs\":" ++ (array (codecs_of ds) ++ codes ",")))
+component_marks ds = codes ",\"languages\":" ++ (array (map language_json (languages_of ds))
+    ++ (codes ",\"codecs\":" ++ (array (map quoted (codecs_of ds)) ++ codes ",")))
 
 -- its share, its scrambled and faulty packets, and `,"services":<n>}`: how many services have it
 abbrev pub component_tail : Scene → PidNumbers → ℕ → List ℕ

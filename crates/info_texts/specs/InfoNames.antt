@@ -1,5 +1,5 @@
 -- Names of stream types, of service types, of the PIDs of tables, and of codecs that descriptors identify. ISO/IEC
--- 13818-1, table 2-34 and 2.4.3.3; ETSI EN 300 468, 5.1.3, 6.1, annex D, and the table of service_type in 6.2.33.
+-- 13818-1, table 2-34 and 2.4.3.3; ETSI EN 300 468, 5.1.3, 6.1, 6.4, annex D, and the table of service_type in 6.2.33.
 -- Stream types from 0x80 on are private there: of these ATSC A/53 (0x81, 0x87) and ANSI/SCTE 35 (0x86) define one
 -- each, and 0x8A is in common use. The names are this project's own.
 use Rattle.std.specs.Prelude.{ℕ, ◌==◌, List, [], ◌∷◌, Option, None, Some, codes, if◌then◌else◌}
@@ -110,6 +110,8 @@ abbrev pub codec_names : List (ℕ × List ℕ)
 codec_names = (0x28, codes "AVC")
     ∷ (0x2B, codes "MPEG-2 AAC")
     ∷ (0x38, codes "HEVC")
+    ∷ (0x39, codes "VVC")
+    ∷ (0x46, codes "VBI teletext")
     ∷ (0x56, codes "teletext")
     ∷ (0x59, codes "subtitles")
     ∷ (0x6A, codes "AC-3")
@@ -118,16 +120,30 @@ codec_names = (0x28, codes "AVC")
     ∷ (0x7C, codes "AAC")
     ∷ []
 
+-- codecs that extension_descriptors identify, by descriptor_tag_extension
+abbrev pub extension_names : List (ℕ × List ℕ)
+extension_names = (0x0E, codes "DTS-HD")
+    ∷ (0x15, codes "AC-4")
+    ∷ (0x20, codes "TTML")
+    ∷ (0x21, codes "DTS-UHD")
+    ∷ []
+
 -- PIDs that the standards assign to tables, and that of null packets
 abbrev pub pid_names : List (ℕ × List ℕ)
 pid_names = (0, codes "PAT")
     ∷ (1, codes "CAT")
     ∷ (2, codes "TSDT")
+    ∷ (3, codes "IPMP")
     ∷ (16, codes "NIT")
-    ∷ (17, codes "SDT")
+    ∷ (17, codes "SDT, BAT")
     ∷ (18, codes "EIT")
     ∷ (19, codes "RST")
-    ∷ (20, codes "TDT")
+    ∷ (20, codes "TDT, TOT")
+    ∷ (21, codes "network synchronization")
+    ∷ (22, codes "RNT")
+    ∷ (27, codes "SAT")
+    ∷ (28, codes "inband signalling")
+    ∷ (29, codes "measurement")
     ∷ (30, codes "DIT")
     ∷ (31, codes "SIT")
     ∷ (8191, codes "null")

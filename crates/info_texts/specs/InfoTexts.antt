@@ -1,32 +1,29 @@
 -- The texts of `info`. This project's own rule.
-use Rattle.std.specs.Prelude.{ℕ, ◌+◌, ◌*◌, ◌/◌, ◌%◌, ◌==◌, Bool, not, ◌&&◌, List, [], ◌∷◌, ◌++◌, length, take, drop, nat_le, nat_lt, Option, None, Some, codes, if◌then◌else◌}
-use Rattle.std.specs.List.{flat_map, list_all}
+use Rattle.std.specs.Prelude.{ℕ, ◌+◌, ◌*◌, ◌/◌, ◌%◌, ◌==◌, Bool, ◌&&◌, List, [], ◌∷◌, ◌++◌, length, take, drop, nat_le, nat_lt, Option, None, Some, codes, if◌then◌else◌}
+use Rattle.std.specs.List.{flat_map}
 use Rattle.std.specs.Fmt.{decimal}
 use Rattle.hex.specs.Hex.{encode_lower}
 use Rattle.ts_bits.specs.TaggedBody.{TaggedBody}
 use Rattle.ts_fields.specs.Texts.{text_of}
 use Rattle.ts_packet.specs.declared.numbers.TheConstants.{PACKET_SIZE}
 use Rattle.plugin_notes.specs.PidPackets.{numbers_below}
-use Rattle.info_texts.specs.InfoNames.{codec_names, service_type_names, stream_type_names, text_for}
+use Rattle.info_texts.specs.InfoNames.{service_type_names, stream_type_names, text_for}
+use Rattle.info_texts.specs.Marks.{codecs_of, languages_of}
+use Rattle.info_texts.specs.PlainTexts.{is_plain}
 use Rattle.info_texts.specs.Rounding.{rounded}
 use Rattle.info_texts.specs.ServiceNames.{name_in, provider_in, type_in}
 use Rattle.info_texts.specs.declared.pid_numbers.PidNumbers.{PidNumbers}
 use Rattle.info_texts.specs.declared.scene.Scene.{Scene}
 use Rattle.info_texts.specs.declared.stream_numbers.StreamNumbers.{StreamNumbers}
 
--- A byte that may stand in a text in quotation marks: not a control character of ASCII, a quotation mark or a
--- backslash.
-abbrev pub is_plain : ℕ → Bool
-is_plain byte = nat_le 0x20 byte && (not (byte == 0x22) && (not (byte == 0x5C) && not (byte == 0x7F)))
-
 -- bytes as hexadecimal digits after `0x`
 abbrev pub hex_text : List ℕ → List ℕ
 hex_text bytes = codes "0x" ++ encode_lower bytes
 
--- a text in quotation marks, if all its bytes are plain, else the bytes that it was read from, as digits
+-- a text in quotation marks, if it stands there as it is, else the bytes that it was read from, as digits
 abbrev pub quoted_or_hex : List ℕ → Option (List ℕ) → List ℕ
 quoted_or_hex bytes None = hex_text bytes
-quoted_or_hex bytes (Some text) = if list_all is_plain text then codes "\"" ++ (text ++ codes "\"") else hex_text bytes
+quoted_or_hex bytes (Some text) = if is_plain text then codes "\"" ++ (text ++ codes "\"") else hex_text bytes
 
 -- bytes as they are shown
 abbrev pub shown : List ℕ → List ℕ
@@ -110,37 +107,17 @@ service_tail pmt pcr portion = codes " pmt " ++ (decimal pmt ++ (codes " pcr " +
 abbrev pub service_text : ℕ → ℕ → Option (List ℕ) → Option ℕ → List ℕ → List ℕ
 service_text id pmt body pcr portion = service_head id body ++ service_tail pmt pcr portion
 
--- the size of an entry with a language, in bytes: ISO_639_language_descriptor (ISO/IEC 13818-1, 2.6.18),
--- teletext_descriptor and subtitling_descriptor (ETSI EN 300 468, 6.2.43 and 6.2.41); 256, more than any body has,
--- for other tags
-abbrev pub language_step : ℕ → ℕ
-language_step tag = if tag == 0x0A then 4 else (if tag == 0x56 then 5 else (if tag == 0x59 then 8 else 256))
+-- ` codec <name>`
+abbrev pub codec_text : List ℕ → List ℕ
+codec_text name = codes " codec " ++ name
 
--- a whole entry begins at this offset of a descriptor's body
-abbrev pub is_entry : ℕ → ℕ → ℕ → Bool
-is_entry step size place = (place % step == 0) && nat_le (place + step) size
+-- ` language <code>`
+abbrev pub language_text : List ℕ → List ℕ
+language_text code = codes " language " ++ shown code
 
--- ` language <code>`: the first three bytes of an entry
-abbrev pub language_at : ℕ → List ℕ → ℕ → List ℕ
-language_at step body place =
-    if is_entry step (length body) place then codes " language " ++ shown (take 3 (drop place body)) else []
-
--- the languages of a descriptor's body
-abbrev pub language_texts : ℕ → List ℕ → List ℕ
-language_texts step body = flat_map (language_at step body) (numbers_below (length body))
-
--- ` codec <name>`, if the descriptor names one
-abbrev pub codec_text : Option (List ℕ) → List ℕ
-codec_text None = []
-codec_text (Some name) = codes " codec " ++ name
-
--- the codec and the languages of a descriptor
-abbrev pub mark_text : TaggedBody → List ℕ
-mark_text d = codec_text (text_for codec_names d.tag) ++ language_texts (language_step d.tag) d.body
-
--- those of a list of descriptors
+-- the codecs of a list of descriptors, and behind them the languages
 abbrev pub marks_text : List TaggedBody → List ℕ
-marks_text ds = flat_map mark_text ds
+marks_text ds = flat_map codec_text (codecs_of ds) ++ flat_map language_text (languages_of ds)
 
 -- ` scrambled <n> faults <n>`
 abbrev pub troubles_text : PidNumbers → List ℕ

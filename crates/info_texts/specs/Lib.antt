@@ -2,7 +2,8 @@
 pub mod InfoJson
 pub mod InfoNames
 pub mod InfoTexts
-pub mod JsonItems
+pub mod Marks
 pub mod NameRows
+pub mod PlainTexts
 pub mod Rounding
 pub mod ServiceNames

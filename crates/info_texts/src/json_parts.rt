@@ -7,9 +7,10 @@ ghost use Rattle.info_texts.specs.InfoJson;
 ghost use Rattle.info_texts.specs.InfoJson.{behind_comma, joined};
 
 use crate::pid_numbers::PidNumbers;
+use crate::plain_texts::{escaped, is_harmless};
 use crate::portions::rate_part;
 use crate::scene::Scene;
-use crate::shown::{are_plain, hex_text};
+use crate::shown::hex_text;
 use std::alloc::{AllocError, Global};
 use ts_fields::text_of;
 
@@ -75,7 +76,7 @@ pub fn bytes_field(alloc: Global, key: &str, bytes: Option<&[u8]>) -> Result<Str
     Ok(text)
 }
 
-// A key and its bytes: as a text, if they are one that may stand in quotation marks, else as digits.
+// A key and its bytes: as a text, if they are one without control characters, else as digits.
 fn text_field(alloc: Global, key: &str, bytes: &[u8]) -> Result<String, AllocError>
     ensures { IfOk result (λ text. string_bytes text ≡ InfoJson.text_field key.now bytes.now (text_that_is bytes.now)) }
 {
@@ -83,7 +84,8 @@ fn text_field(alloc: Global, key: &str, bytes: &[u8]) -> Result<String, AllocErr
         let field = hex_field(alloc, key, bytes)?;
         return Ok(field);
     };
-    if are_plain(text.as_bytes()) {
+    if is_harmless(text.as_bytes()) {
+        let text = escaped(alloc, text)?;
         let field = format!(in alloc; "\"{key}\":\"{text}\"")?;
         return Ok(field);
     }
@@ -100,7 +102,7 @@ fn hex_field(alloc: Global, key: &str, bytes: &[u8]) -> Result<String, AllocErro
     Ok(field)
 }
 
-/// Bytes in quotation marks: as a text, if they are one that may stand there, else as digits.
+/// Bytes in quotation marks: as a text, if they are one without control characters, else as digits.
 pub fn text_or_hex(alloc: Global, bytes: &[u8]) -> Result<String, AllocError>
     ensures { IfOk result (λ text. string_bytes text ≡ InfoJson.text_or_hex bytes.now (text_that_is bytes.now)) }
 {
@@ -108,7 +110,8 @@ pub fn text_or_hex(alloc: Global, bytes: &[u8]) -> Result<String, AllocError>
         let quoted = quoted_hex(alloc, bytes)?;
         return Ok(quoted);
     };
-    if are_plain(text.as_bytes()) {
+    if is_harmless(text.as_bytes()) {
+        let text = escaped(alloc, text)?;
         let quoted = format!(in alloc; "\"{text}\"")?;
         return Ok(quoted);
     }

@@ -1,6 +1,6 @@
 //! Names of stream types, service types, codecs and PIDs.
 ghost use Rattle.std.specs.Prelude.{◌≡◌, map, option_map};
-ghost use Rattle.info_texts.specs.InfoNames.{codec_names, pid_names, service_type_names, stream_type_names, text_for};
+ghost use Rattle.info_texts.specs.InfoNames.{codec_names, extension_names, pid_names, service_type_names, stream_type_names, text_for};
 ghost use Rattle.info_texts.specs.NameRows.{named};
 
 /// A number and its name.
@@ -107,10 +107,12 @@ static SERVICE_TYPES: [NameRow; 29] = [
 ];
 
 // Names of codecs and kinds of components, by descriptor tag.
-static CODECS: [NameRow; 9] = [
+static CODECS: [NameRow; 11] = [
     NameRow::Named(0x28, "AVC"),
     NameRow::Named(0x2B, "MPEG-2 AAC"),
     NameRow::Named(0x38, "HEVC"),
+    NameRow::Named(0x39, "VVC"),
+    NameRow::Named(0x46, "VBI teletext"),
     NameRow::Named(0x56, "teletext"),
     NameRow::Named(0x59, "subtitles"),
     NameRow::Named(0x6A, "AC-3"),
@@ -119,16 +121,30 @@ static CODECS: [NameRow; 9] = [
     NameRow::Named(0x7C, "AAC"),
 ];
 
+// Names of codecs, by descriptor_tag_extension.
+static EXTENSIONS: [NameRow; 4] = [
+    NameRow::Named(0x0E, "DTS-HD"),
+    NameRow::Named(0x15, "AC-4"),
+    NameRow::Named(0x20, "TTML"),
+    NameRow::Named(0x21, "DTS-UHD"),
+];
+
 // Names of PIDs.
-static PIDS: [NameRow; 11] = [
+static PIDS: [NameRow; 17] = [
     NameRow::Named(0, "PAT"),
     NameRow::Named(1, "CAT"),
     NameRow::Named(2, "TSDT"),
+    NameRow::Named(3, "IPMP"),
     NameRow::Named(16, "NIT"),
-    NameRow::Named(17, "SDT"),
+    NameRow::Named(17, "SDT, BAT"),
     NameRow::Named(18, "EIT"),
     NameRow::Named(19, "RST"),
-    NameRow::Named(20, "TDT"),
+    NameRow::Named(20, "TDT, TOT"),
+    NameRow::Named(21, "network synchronization"),
+    NameRow::Named(22, "RNT"),
+    NameRow::Named(27, "SAT"),
+    NameRow::Named(28, "inband signalling"),
+    NameRow::Named(29, "measurement"),
     NameRow::Named(30, "DIT"),
     NameRow::Named(31, "SIT"),
     NameRow::Named(8191, "null"),
@@ -166,6 +182,13 @@ pub fn codec_name(tag: u8) -> Option<&'static str>
     ensures { option_map (λ name. name.now) result ≡ text_for codec_names tag }
 {
     name_for(&CODECS, u16::from(tag))
+}
+
+/// The codec that an extension_descriptor with this descriptor_tag_extension identifies.
+pub fn extension_name(extension: u8) -> Option<&'static str>
+    ensures { option_map (λ name. name.now) result ≡ text_for extension_names extension }
+{
+    name_for(&EXTENSIONS, u16::from(extension))
 }
 
 /// The name of a PID.

@@ -1,29 +1,15 @@
 //! Bytes and numbers that may be missing, as text.
 ghost use Rattle.std.specs.Prelude.{◌≡◌, IfOk, option_map};
 ghost use Rattle.std.specs.Option.{option_copied};
-ghost use Rattle.std.specs.List.{list_all};
 ghost use Rattle.std.specs.String.{string_bytes};
 ghost use Rattle.info_texts.specs.InfoTexts;
 
+use crate::plain_texts::is_plain;
 use std::alloc::{AllocError, Global};
 use ts_fields::text_of;
 
-// Whether a byte may stand in a text in quotation marks.
-fn is_plain(byte: u8) -> bool
-    ensures { result ≡ InfoTexts.is_plain byte }
-{
-    0x20 <= byte && byte != 0x22 && byte != 0x5C && byte != 0x7F
-}
-
-/// Whether all bytes may stand in a text in quotation marks.
-pub fn are_plain(bytes: &[u8]) -> bool
-    ensures { result ≡ list_all InfoTexts.is_plain bytes.now }
-{
-    bytes.iter().all(|byte| is_plain(*byte))
-}
-
-/// Bytes as they are shown: as a text in quotation marks, if they are one and each of its bytes may stand there, else
-/// as hexadecimal digits.
+/// Bytes as they are shown: as a text in quotation marks, if they are one that stands there as it is, else as
+/// hexadecimal digits.
 pub fn shown(alloc: Global, bytes: &[u8]) -> Result<String, AllocError>
     ensures { IfOk result (λ text. string_bytes text ≡ InfoTexts.shown bytes.now) }
 {
@@ -31,7 +17,7 @@ pub fn shown(alloc: Global, bytes: &[u8]) -> Result<String, AllocError>
         let hex = hex_text(alloc, bytes)?;
         return Ok(hex);
     };
-    if are_plain(text.as_bytes()) {
+    if is_plain(text.as_bytes()) {
         let quoted = format!(in alloc; "\"{text}\"")?;
         return Ok(quoted);
     }

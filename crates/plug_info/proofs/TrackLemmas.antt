@@ -9,6 +9,7 @@ use Rattle.plug_psi.specs.ForceStands as forcing
 use Rattle.plug_analyze.specs.AnalyzeRule.{all_pids}
 use Rattle.plug_info.specs.ClockSpans.{AreSpans}
 use Rattle.plug_info.specs.ExtentKept.{kept_extent}
+use Rattle.plug_info.specs.OtherStands.{HasFedOthers}
 use Rattle.plug_info.specs.SdtStands.{HasFedSdt}
 use Rattle.plug_info.specs.TotalsOf.{AreCounted}
 use Rattle.plug_info.specs.Tracked.{Tracks}
@@ -25,6 +26,7 @@ tracks_dropped t cells w = record {
   spans_are = spans_dropped t.spans cells w.spans_are;
   extent_is = w.extent_is ∙ sym (extent_dropped cells);
   has_sdt = subst (HasFedSdt t.sdt) (sym (live-dropped cells)) w.has_sdt;
+  has_others = subst (HasFedOthers t.others) (sym (live-dropped cells)) w.has_others;
   fed = subst (forcing.StandsFor t.force) (sym (live-dropped cells)) w.fed;
 }
 
@@ -32,13 +34,14 @@ tracks_dropped t cells w = record {
 pub tracks_live : (t : Tracker) (cells : List Cell) (packet : List ℕ) (labels : ℕ)
     → Remembers all_pids t.last (cells ++ Live packet labels ∷ []) → AreCounted t.totals (cells ++ Live packet labels ∷ []) → AreSpans t.spans (cells ++ Live packet labels ∷ [])
     → t.extent ≡ kept_extent (met_rows (cells ++ Live packet labels ∷ []))
-    → HasFedSdt t.sdt (live_packets cells ++ packet ∷ []) → forcing.StandsFor t.force (live_packets cells ++ packet ∷ [])
+    → HasFedSdt t.sdt (live_packets cells ++ packet ∷ []) → HasFedOthers t.others (live_packets cells ++ packet ∷ []) → forcing.StandsFor t.force (live_packets cells ++ packet ∷ [])
     → Tracks t (cells ++ Live packet labels ∷ [])
-tracks_live t cells packet labels a b c reach d e = record {
+tracks_live t cells packet labels a b c reach d others e = record {
   remembers = a;
   counted = b;
   spans_are = c;
   extent_is = reach;
   has_sdt = subst (HasFedSdt t.sdt) (sym (live-live cells packet labels)) d;
+  has_others = subst (HasFedOthers t.others) (sym (live-live cells packet labels)) others;
   fed = subst (forcing.StandsFor t.force) (sym (live-live cells packet labels)) e;
 }

@@ -1,6 +1,6 @@
 -- The rule of `info`: what is in a stream, on one screen. This project's own rule, over the header fields of ISO/IEC
 -- 13818-1, 2.4.3.2, the tables of 2.4.4.3 and 2.4.4.8, and the SDT of ETSI EN 300 468, 5.2.3.
-use Rattle.std.specs.Prelude.{ℕ, ◌+◌, ◌==◌, ◌&&◌, Bool, false, not, List, [], ◌∷◌, ◌++◌, length, map, filter, fold, count_by, drop, Option, None, Some, option_map, unwrap_or, codes, if◌then◌else◌}
+use Rattle.std.specs.Prelude.{ℕ, ◌+◌, ◌==◌, ◌&&◌, Bool, false, not, List, [], ◌∷◌, ◌++◌, length, map, filter, fold, count_by, drop, Option, None, Some, option_map, unwrap_or, if◌then◌else◌}
 use Rattle.std.specs.List.{flat_map, list_any}
 use Rattle.ts_packet.specs.declared.cell.Cell.{Cell}
 use Rattle.ts_packet.specs.declared.numbers.TheConstants.{NULL_PID, PID_COUNT}
@@ -10,13 +10,14 @@ use Rattle.ts_table_rows.specs.BodyReading.{first_number}
 use Rattle.ts_table_rows.specs.TableValues.{ItemHolding, TableHolding}
 use Rattle.chain_model.specs.PluginRule.{PluginRule, passes}
 use Rattle.plugin_notes.specs.PidPackets.{numbers_below, packets_on}
-use Rattle.plug_psi.specs.InForce.{names, pat_of, pmt_of, services_in}
+use Rattle.plug_psi.specs.InForce.{pat_of, pmt_of, services_in}
 use Rattle.plug_analyze.specs.AnalyzeRule.{fault_pids, is_scrambled}
 use Rattle.info_texts.specs.InfoJson.{array, component_json, number_or_null, pid_json, portion_json, service_json, stream_json, whole_json}
-use Rattle.info_texts.specs.InfoNames.{pid_names, text_for}
 use Rattle.info_texts.specs.InfoTexts.{component_text, marks_text, pid_text, portion_text, sdt_texts, service_text, stream_text}
 use Rattle.plug_info.specs.PacketExtent.{extent_of}
 use Rattle.plug_info.specs.PcrRate.{breaks_of, rate_of}
+pub use Rattle.plug_info.specs.PidUses.{use_of}
+pub use Rattle.plug_info.specs.PmtFields.{pcr_pid_in}
 use Rattle.plug_info.specs.SdtInForce.{is_number, items_in, sdt_of, service_body}
 pub use Rattle.plug_info.specs.SdtInForce.{stream_id_in}
 use Rattle.plug_info.specs.declared.info_conf.InfoConf.{InfoConf}
@@ -59,11 +60,6 @@ has_component pmt pid = list_any (λ x. is_number pid (first_number (drop 1 x.va
 abbrev pub users_of : List (List ℕ) → ℕ → ℕ
 users_of packets pid = count_by (λ service. has_component (pmt_of service.0 packets) pid) (services_in (pat_of packets))
 
--- the PCR_PID of a PMT
-abbrev pub pcr_pid_in : Option TableHolding → Option ℕ
-pcr_pid_in None = None
-pcr_pid_in (Some pmt) = first_number pmt.body.values
-
 -- the number of packets of a service: those on the PIDs of its components, each PID once
 abbrev pub service_packets : Option TableHolding → List (List ℕ) → ℕ
 service_packets pmt packets = fold (λ n pid. n + (if has_component pmt pid then packets_on pid packets else 0)) 0 (numbers_below PID_COUNT)
@@ -87,10 +83,6 @@ service_line cells service =
 abbrev pub service_lines : List Cell → ℕ × ℕ → List (List ℕ)
 service_lines cells service =
     service_line cells service ∷ map (component_line cells service.0) (items_in (pmt_of service.0 (live_packets cells)))
-
--- the use of a PID that no component has: that of a PMT, that of a table by the standards, or none of these
-abbrev pub use_of : List (List ℕ) → ℕ → List ℕ
-use_of packets pid = if names (pat_of packets) pid then codes "PMT" else unwrap_or (text_for pid_names pid) (codes "unnamed")
 
 -- the line of a PID that has packets and is not a component's
 abbrev pub pid_lines : List Cell → ℕ → List (List ℕ)

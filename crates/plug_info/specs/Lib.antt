@@ -1,4 +1,6 @@
 -- The definitions of `plug_info`: the rule, texts and state of `info`.
+pub mod CaSystems
+pub mod CatStands
 pub mod ClockSpans
 pub mod Components
 pub mod ExtentKept
@@ -7,9 +9,13 @@ pub mod InfoSettings
 pub mod InfoStands
 pub mod InfoWords
 pub mod MetState
+pub mod OtherStands
 pub mod PacketExtent
 pub mod PcrRate
+pub mod PidUses
+pub mod PmtFields
 pub mod SdtInForce
 pub mod SdtStands
 pub mod TotalsOf
 pub mod Tracked
+pub mod UsesOf

@@ -9,6 +9,7 @@ use Rattle.plug_psi.specs.ForceStands as forcing
 use Rattle.plug_analyze.specs.AnalyzeRule.{all_pids}
 use Rattle.plug_info.specs.ClockSpans.{AreSpans}
 use Rattle.plug_info.specs.ExtentKept.{kept_extent}
+use Rattle.plug_info.specs.OtherStands.{HasFedOthers}
 use Rattle.plug_info.specs.SdtStands.{HasFedSdt}
 use Rattle.plug_info.specs.TotalsOf.{AreCounted}
 use Rattle.plug_info.specs.declared.tracker.Tracker.{Tracker}
@@ -20,6 +21,7 @@ pub record Tracks (tracker : Tracker) (cells : List Cell) : Type 0 where
   pub spans_are : AreSpans tracker.spans cells
   pub extent_is : tracker.extent ≡ kept_extent (met_rows cells)
   pub has_sdt : HasFedSdt tracker.sdt (live_packets cells)
+  pub has_others : HasFedOthers tracker.others (live_packets cells)
   pub fed : forcing.StandsFor tracker.force (live_packets cells)
 
 -- the parts stand for some list of exactly `at` cells, and one more cell is allowed

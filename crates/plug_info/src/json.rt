@@ -12,13 +12,15 @@ ghost use Rattle.plugin_trait.specs.PlacedLines.{placed_at};
 ghost use Rattle.plug_psi.specs.InForce.{pat_of, pmt_of, services_in};
 ghost use Rattle.info_texts.specs.InfoJson;
 ghost use Rattle.info_texts.specs.InfoJson.{behind_comma};
-ghost use Rattle.plug_info.specs.InfoRule.{component_object, json_on, pid_objects, scene_of, service_object, use_of};
+ghost use Rattle.plug_info.specs.InfoRule.{component_object, json_on, pid_objects, scene_of, service_object};
 ghost use Rattle.plug_info.specs.SdtInForce.{items_in};
 ghost use Rattle.plug_info.specs.Tracked.{Tracks};
+ghost use Rattle.plug_info.specs.UsesOf.{AreUses};
 
+use crate::pid_uses::PidUses;
 use crate::service_texts::service_body;
 use crate::summary::{
-    numbers_shown, pcr_pid_in, sdt_stream_id, service_packets, stream_numbers, use_of,
+    numbers_shown, pcr_pid_in, sdt_stream_id, service_packets, stream_numbers, uses_of,
 };
 use crate::tracker::Tracker;
 use crate::users::{components_of, services_of, users_of};
@@ -194,8 +196,26 @@ fn push_pids(
         → string_bytes items.new ≡ string_bytes items.old
         ++ flat_map (λ pid. flat_map behind_comma (pid_objects cells pid)) (numbers_below PID_COUNT)) }
 {
+    let uses = uses_of(alloc, tracker)?;
+    push_each_pid(alloc, items, tracker, &uses, scene)?;
+    Ok(())
+}
+
+// Appends them to the items, by what they are used for.
+fn push_each_pid(
+    alloc: Global,
+    items: &mut String,
+    tracker: &Tracker,
+    uses: &PidUses,
+    scene: &Scene,
+) -> Result<(), AllocError>
+    ensures { OnOk result ((cells : List GivenCell) → Tracks tracker.now cells → AreUses uses.now (live_packets cells)
+        → scene.now ≡ scene_of cells
+        → string_bytes items.new ≡ string_bytes items.old
+        ++ flat_map (λ pid. flat_map behind_comma (pid_objects cells pid)) (numbers_below PID_COUNT)) }
+{
     for pid in 0..PID_COUNT {
-        push_pid(alloc, items, tracker, scene, pid)?;
+        push_pid(alloc, items, tracker, uses, scene, pid)?;
     }
     Ok(())
 }
@@ -205,17 +225,20 @@ fn push_pid(
     alloc: Global,
     items: &mut String,
     tracker: &Tracker,
+    uses: &PidUses,
     scene: &Scene,
     pid: u16,
 ) -> Result<(), AllocError>
     requires on_pid { pid < PID_COUNT }
-    ensures { OnOk result ((cells : List GivenCell) → Tracks tracker.now cells → scene.now ≡ scene_of cells
+    ensures { OnOk result ((cells : List GivenCell) → Tracks tracker.now cells → AreUses uses.now (live_packets cells)
+        → scene.now ≡ scene_of cells
         → string_bytes items.new ≡ string_bytes items.old ++ flat_map behind_comma (pid_objects cells pid)) }
 {
     let Some(numbers) = numbers_shown(tracker, pid) else {
         return Ok(());
     };
-    let text = pid_json(alloc, tracker, scene, pid, &numbers)?;
+    let name = uses.name(&tracker.force, pid);
+    let text = pid_json(alloc, name, scene, pid, &numbers)?;
     push_item(items, &text)?;
     Ok(())
 }
@@ -223,16 +246,14 @@ fn push_pid(
 // The object of a PID.
 fn pid_json(
     alloc: Global,
-    tracker: &Tracker,
+    name: &str,
     scene: &Scene,
     pid: u16,
     numbers: &PidNumbers,
 ) -> Result<String, AllocError>
-    ensures { IfOk result (λ text. (cells : List GivenCell) → Tracks tracker.now cells
-        → string_bytes text
-        ≡ InfoJson.pid_json pid (use_of (live_packets cells) pid) (InfoJson.portion_json scene.now numbers.now.packets) numbers.now) }
+    ensures { IfOk result (λ text. string_bytes text
+        ≡ InfoJson.pid_json pid name.now (InfoJson.portion_json scene.now numbers.now.packets) numbers.now) }
 {
-    let name = use_of(tracker, pid);
     let portion = portion_json(alloc, scene, numbers.packets)?;
     let troubles = troubles_json(alloc, numbers)?;
     let text = format!(in alloc; "{{\"pid\":{pid},\"use\":\"{name}\",{portion}{troubles}}}")?;

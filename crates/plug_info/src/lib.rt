@@ -4,6 +4,8 @@
 //! relate the summary to the cells that count.
 #![tactic(auto)]
 
+mod ca_system;
+mod cat_in_force;
 mod clock_span;
 mod counters;
 mod extent;
@@ -13,6 +15,8 @@ mod info_words;
 mod json;
 mod kept_sdts;
 mod met_cells;
+mod other_tables;
+mod pid_uses;
 mod report;
 mod sdt_in_force;
 mod service_texts;

@@ -11,22 +11,22 @@ ghost use Rattle.ts_psi.specs.PsiTables.{component_item, pmt_held};
 ghost use Rattle.plugin_notes.specs.PidPackets.{numbers_below};
 ghost use Rattle.plugin_trait.specs.PlacedLines.{placed_at};
 ghost use Rattle.plug_psi.specs.InForce.{pat_of, pmt_of, services_in};
-ghost use Rattle.plug_info.specs.InfoRule.{component_line, has_component, info_on, numbers_on, pcr_pid_in, pid_lines, scene_of, service_line, service_lines, service_packets, stream_id_in, stream_numbers, use_of, users_of};
+ghost use Rattle.plug_info.specs.InfoRule.{component_line, has_component, info_on, numbers_on, pcr_pid_in, pid_lines, scene_of, service_line, service_lines, service_packets, stream_id_in, stream_numbers, users_of};
 ghost use Rattle.info_texts.specs.InfoTexts.{pid_text, sdt_texts};
 ghost use Rattle.plug_info.specs.SdtInForce.{sdt_of};
 ghost use Rattle.plug_info.specs.Tracked.{Tracks};
+ghost use Rattle.plug_info.specs.UsesOf.{AreUses};
 ghost use Rattle.info_texts.specs.InfoTexts;
 ghost use Rattle.plugin_notes.specs.PidPackets.{packets_on};
 
+use crate::pid_uses::PidUses;
 use crate::service_texts::service_body;
 use crate::tracker::Tracker;
 use crate::users::{components_of, has_component, services_of, users_of};
 use info_texts::line_texts::{
     component_head, component_tail, service_head, service_tail, stream_text,
 };
-use info_texts::{
-    PidNumbers, Scene, StreamNumbers, marks_text, pid_name, portion_text, troubles_text,
-};
+use info_texts::{PidNumbers, Scene, StreamNumbers, marks_text, portion_text, troubles_text};
 use plug_psi::number_and_pid;
 use plugin_notes::push_line;
 use plugin_trait::{Line, LineText};
@@ -269,8 +269,33 @@ fn push_pids(
     ensures { OnOk result ((cells : List GivenCell) → Tracks tracker.now cells → scene.now ≡ scene_of cells
         → lines.new.items ≡ lines.old.items ++ placed_at cut (flat_map (pid_lines cells) (numbers_below PID_COUNT))) }
 {
+    let alloc = *lines.allocator();
+    let uses = uses_of(alloc, tracker)?;
+    push_each_pid(lines, cut, tracker, &uses, scene)?;
+    Ok(())
+}
+
+/// What the PIDs are used for that are not a component's.
+pub fn uses_of(alloc: Global, tracker: &Tracker) -> Result<PidUses, AllocError>
+    ensures { IfOk result (λ uses. (cells : List GivenCell) → Tracks tracker.now cells → AreUses uses (live_packets cells)) }
+{
+    PidUses::of(alloc, &tracker.force, tracker.others.cat.cat.as_ref())
+}
+
+// Appends their lines, by what they are used for.
+fn push_each_pid(
+    lines: &mut Vec<Line>,
+    cut: u64,
+    tracker: &Tracker,
+    uses: &PidUses,
+    scene: &Scene,
+) -> Result<(), AllocError>
+    ensures { OnOk result ((cells : List GivenCell) → Tracks tracker.now cells → AreUses uses.now (live_packets cells)
+        → scene.now ≡ scene_of cells
+        → lines.new.items ≡ lines.old.items ++ placed_at cut (flat_map (pid_lines cells) (numbers_below PID_COUNT))) }
+{
     for pid in 0..PID_COUNT {
-        push_pid(lines, cut, tracker, scene, pid)?;
+        push_pid(lines, cut, tracker, uses, scene, pid)?;
     }
     Ok(())
 }
@@ -296,18 +321,21 @@ fn push_pid(
     lines: &mut Vec<Line>,
     cut: u64,
     tracker: &Tracker,
+    uses: &PidUses,
     scene: &Scene,
     pid: u16,
 ) -> Result<(), AllocError>
     requires on_pid { pid < PID_COUNT }
-    ensures { OnOk result ((cells : List GivenCell) → Tracks tracker.now cells → scene.now ≡ scene_of cells
+    ensures { OnOk result ((cells : List GivenCell) → Tracks tracker.now cells → AreUses uses.now (live_packets cells)
+        → scene.now ≡ scene_of cells
         → lines.new.items ≡ lines.old.items ++ placed_at cut (pid_lines cells pid)) }
 {
     let Some(numbers) = numbers_shown(tracker, pid) else {
         return Ok(());
     };
     let alloc = *lines.allocator();
-    let text = pid_text(alloc, tracker, scene, pid, &numbers)?;
+    let name = uses.name(&tracker.force, pid);
+    let text = pid_text(alloc, name, scene, pid, &numbers)?;
     push_line(lines, cut, text)?;
     Ok(())
 }
@@ -315,27 +343,16 @@ fn push_pid(
 // The text of the line of a PID.
 fn pid_text(
     alloc: Global,
-    tracker: &Tracker,
+    name: &str,
     scene: &Scene,
     pid: u16,
     numbers: &PidNumbers,
 ) -> Result<LineText, AllocError>
-    ensures { IfOk result (λ text. (cells : List GivenCell) → Tracks tracker.now cells
-        → text ≡ pid_text pid (use_of (live_packets cells) pid) (InfoTexts.portion_text scene.now numbers.now.packets) numbers.now) }
+    ensures { IfOk result (λ text. text
+        ≡ pid_text pid name.now (InfoTexts.portion_text scene.now numbers.now.packets) numbers.now) }
 {
-    let name = use_of(tracker, pid);
     let portion = portion_text(alloc, scene, numbers.packets)?;
     let troubles = troubles_text(alloc, numbers)?;
     let text = format!(in alloc; "pid {pid} ({name}){portion}{troubles}")?;
     Ok(LineText::of(text))
-}
-
-/// The use of a PID that is not a component's.
-pub fn use_of(tracker: &Tracker, pid: u16) -> &'static str
-    ensures { (cells : List GivenCell) → Tracks tracker.now cells → result.now ≡ use_of (live_packets cells) pid }
-{
-    if tracker.force.names(pid) {
-        return "PMT";
-    }
-    pid_name(pid).unwrap_or("unnamed")
 }

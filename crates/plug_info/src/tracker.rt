@@ -1,6 +1,7 @@
 //! What `info` keeps of the cells that count.
 use crate::counters::meet_counter;
 use crate::extent::Extent;
+use crate::other_tables::OtherTables;
 use crate::sdt_in_force::SdtInForce;
 use crate::spans::Spans;
 use crate::totals::Totals;
@@ -22,6 +23,8 @@ pub struct Tracker {
     pub(crate) extent: Extent,
     /// The SDTs of which one is in force.
     sdt: SdtInForce,
+    /// The other tables that are read.
+    pub(crate) others: OtherTables,
     /// The PAT and the PMTs in force.
     pub(crate) force: InForce,
 }
@@ -45,6 +48,7 @@ impl Tracker {
         let last = LastPackets::new(alloc)?;
         let totals = Totals::new(alloc)?;
         let spans = Spans::new(alloc)?;
+        let others = OtherTables::new(alloc)?;
         let sdt = SdtInForce::new(alloc)?;
         let force = InForce::new(alloc);
         let (sdt, force) = both(sdt, force)?;
@@ -57,6 +61,7 @@ impl Tracker {
                 positions: 0,
             },
             sdt,
+            others,
             force,
         })
     }
@@ -76,7 +81,8 @@ impl Tracker {
     /// Adds the PIDs on which tables changed without a new version.
     pub fn add_changes(&self, changes: &mut Changes) -> Result<(), AllocError> {
         self.force.add_changes(changes)?;
-        self.sdt.add_changes(changes)
+        self.sdt.add_changes(changes)?;
+        self.others.add_changes(changes)
     }
 
     // Counts the packet at a position.
@@ -98,6 +104,7 @@ impl Tracker {
         self.spans.meet(at, packet)?;
         self.force.feed(at, packet)?;
         self.sdt.feed(at, packet)?;
+        self.others.feed(at, packet)?;
         Ok(())
     }
 

@@ -1,4 +1,5 @@
 //! The tables that packets of the rows on editors carry.
+use crate::named_tables::NamedTable;
 
 /// A PAT with the service 1 on PID 4096.
 static PAT: [u8; 16] = [
@@ -53,6 +54,8 @@ pub(crate) enum Carried {
     Sdt,
     OtherSdt,
     Nit,
+    /// One with names and descriptors.
+    Named(NamedTable),
 }
 
 impl Carried {
@@ -64,6 +67,7 @@ impl Carried {
             Carried::Pmt | Carried::PmtOf300 => 4096,
             Carried::Sdt | Carried::OtherSdt => 17,
             Carried::Nit => 16,
+            Carried::Named(table) => table.pid(),
         }
     }
 
@@ -78,6 +82,7 @@ impl Carried {
             Carried::Sdt => &SDT,
             Carried::OtherSdt => &OTHER_SDT,
             Carried::Nit => &NIT,
+            Carried::Named(table) => table.section(),
         }
     }
 }

@@ -30,6 +30,8 @@ mod long_pat;
 mod meeting_gate;
 mod meeting_pairs;
 mod mixed_stream;
+mod name_rows;
+mod named_tables;
 mod note_rows;
 mod outcome;
 mod plugin_rows;
@@ -92,7 +94,7 @@ fn write_tables<R: Threads + Wait + Sync + AllocGlobal>(
 }
 
 /// All tables, in the order in which they are printed.
-fn tables() -> [&'static [Row]; 33] {
+fn tables() -> [&'static [Row]; 34] {
     [
         end_rows::rows(),
         plugin_rows::rows(),
@@ -106,6 +108,7 @@ fn tables() -> [&'static [Row]; 33] {
         clock_rows::rows(),
         info_rows::rows(),
         rate_rows::rows(),
+        name_rows::rows(),
         generated_rows::rows(),
         cycle_rows::rows(),
         note_rows::rows(),

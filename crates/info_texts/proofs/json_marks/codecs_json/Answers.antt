@@ -1,8 +1,10 @@
-use Rattle.std.proofs.Common.{◌∙◌}
-use Rattle.info_texts.specs.InfoJson.{behind_comma, codec_in, codecs_of}
-use Rattle.info_texts.proofs.JsonLemmas.{flat_flat}
+use Rattle.std.proofs.Common.{◌++◌, List, ℕ, ap, ◌∙◌, map}
+use Rattle.std.specs.List.{flat_map}
+use Rattle.info_texts.specs.InfoJson.{behind_comma, quoted}
 use Rattle.info_texts.proofs.json_marks.codecs_json.Goals as goal
 
 pub returns : goal.returns
 returns c =
-    c.in_ok-text.ensures (codecs_of c.args.descriptors.now) (c.deref.ensures ∙ (c.in_ok-items.ensures ∙ flat_flat behind_comma codec_in c.args.descriptors.now))
+    let texts : List (List ℕ) = map quoted (map (λ t. t.now) c.args.codecs.now) in
+    c.in_ok-text.ensures texts
+    (c.deref.ensures ∙ (c.in_ok-push_codecs.ensures ∙ ap (λ (z : List ℕ). z ++ flat_map behind_comma texts) c.new-items.ensures.bytes))

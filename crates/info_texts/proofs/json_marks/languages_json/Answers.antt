@@ -1,8 +1,10 @@
-use Rattle.std.proofs.Common.{◌∙◌}
-use Rattle.info_texts.specs.InfoJson.{languages_of}
-use Rattle.info_texts.proofs.JsonLemmas.{languages_flat}
+use Rattle.std.proofs.Common.{◌++◌, List, ℕ, ap, ◌∙◌, map}
+use Rattle.std.specs.List.{flat_map}
+use Rattle.info_texts.specs.InfoJson.{behind_comma, language_json}
 use Rattle.info_texts.proofs.json_marks.languages_json.Goals as goal
 
 pub returns : goal.returns
 returns c =
-    c.in_ok-text.ensures (languages_of c.args.descriptors.now) (c.deref.ensures ∙ (c.in_ok-items.ensures ∙ languages_flat c.args.descriptors.now))
+    let texts : List (List ℕ) = map language_json (map (λ t. t.now) c.args.languages.now) in
+    c.in_ok-text.ensures texts
+    (c.deref.ensures ∙ (c.in_ok-push_languages.ensures ∙ ap (λ (z : List ℕ). z ++ flat_map behind_comma texts) c.new-items.ensures.bytes))

@@ -1,10 +1,11 @@
-use Rattle.std.proofs.Common.{◌≡◌, ◌++◌}
+use Rattle.std.proofs.Common.{◌≡◌, ◌++◌, drop, map}
 use Rattle.std.specs.List.{flat_map}
 use Rattle.std.specs.String.{string_bytes}
-use Rattle.plugin_notes.specs.PidPackets.{numbers_below}
-use Rattle.info_texts.specs.JsonItems.{item_at}
+use Rattle.info_texts.specs.InfoJson.{behind_comma, language_json}
 use Rattle.info_texts.proofs.json_marks.push_languages.Given as goal
 
-abbrev pub invariant-loop-place : goal.invariant-loop-place
-invariant-loop-place l =
-    string_bytes l.items ≡ string_bytes l.fn.items ++ flat_map (item_at l.step l.body) (numbers_below l.place)
+-- the items so far, with the languages that are left
+abbrev pub invariant-loop-language : goal.invariant-loop-language
+invariant-loop-language l =
+    string_bytes l.items ++ flat_map behind_comma (map language_json (map (λ t. t.now) (drop l.language-index l.languages)))
+    ≡ string_bytes l.fn.items ++ flat_map behind_comma (map language_json (map (λ t. t.now) l.languages))

@@ -1,15 +1,4 @@
-use Rattle.std.proofs.Common.{sym, append-nil}
-use Rattle.std.specs.List.{flat_map}
-use Rattle.plugin_notes.specs.PidPackets.{numbers_below}
-use Rattle.info_texts.specs.InfoJson.{behind_comma}
-use Rattle.plug_info.specs.InfoRule.{pid_objects}
-use Rattle.info_texts.proofs.LineLemmas.{text_more}
 use Rattle.plug_info.proofs.json.push_pids.Goals as goal
 
-pub loop-pid-init : goal.loop-pid-init
-unfolding numbers_below
-loop-pid-init c = λ cells w s. sym (append-nil _)
-
-pub loop-pid-preserved : goal.loop-pid-preserved
-loop-pid-preserved c = λ cells w s.
-    text_more (λ pid. flat_map behind_comma (pid_objects cells pid)) c.loop-pid.pid _ _ _ (c.loop-pid.invariant cells w s) (c.in_ok-push_pid.ensures cells w s)
+pub returns : goal.returns
+returns c = λ cells w s. c.in_ok-push_each_pid.ensures cells w (c.in_ok-uses.ensures cells w) s

@@ -11,5 +11,6 @@ returns c = record {
   spans_are = c.in_ok-spans.ensures;
   extent_is = refl;
   has_sdt = subst (λ s. HasFedSdt s []) (sym c.in_ok-sdt-2.ensures.first) c.in_ok-sdt.ensures;
+  has_others = c.in_ok-others.ensures;
   fed = subst (λ r. IfOk r (λ f. StandsFor f [])) c.in_ok-sdt-2.ensures.second c.new-force.ensures;
 }

@@ -21,4 +21,5 @@ returns c = λ cells w count labels.
     (c.in_ok-meet.ensures cells w.spans_are count labels)
     (extent_live cells c.args.packet.now labels c.args.at c.args.self.now.extent c.with-self.result w.extent_is count c.with-self.ensures)
     (c.in_ok-feed-2.ensures (live_packets cells) w.has_sdt)
+    (c.in_ok-feed-3.ensures (live_packets cells) w.has_others)
     (c.in_ok-feed.ensures.stands (live_packets cells) w.fed)

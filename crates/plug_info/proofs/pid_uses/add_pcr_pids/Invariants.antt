@@ -1,0 +1,14 @@
+use Rattle.std.proofs.Common.{◌≡◌, ℕ, ◌++◌, List, drop}
+use Rattle.std.specs.List.{flat_map}
+use Rattle.std.specs.Prelude.{option_to_list}
+use Rattle.plug_info.specs.PmtFields.{pcr_pid_in}
+use Rattle.plug_psi.specs.InForce.{pmt_of}
+use Rattle.plug_psi.specs.ForceStands.{StandsFor}
+use Rattle.plug_info.proofs.UseLemmas.{pairs_of}
+use Rattle.plug_info.proofs.pid_uses.add_pcr_pids.Given as goal
+
+-- those so far, and those of the services that are left
+abbrev pub invariant-loop-service : goal.invariant-loop-service
+invariant-loop-service l = (fed : List (List ℕ)) → StandsFor l.force fed
+    → l.pids.items ++ flat_map (λ service. option_to_list (pcr_pid_in (pmt_of service.0 fed))) (pairs_of (drop l.service-index l.services))
+    ≡ l.initial.pids.items ++ flat_map (λ service. option_to_list (pcr_pid_in (pmt_of service.0 fed))) (pairs_of l.services)
