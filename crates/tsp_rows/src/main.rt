@@ -1,6 +1,6 @@
 //! Runs worked examples of the whole tool over a desk in memory, by `tsp_call` and by `serial_call`, and prints the result
-//! of each. Then it runs chains by `threaded_call` whose gates check how the stages work at once, and chains with many
-//! sizes of the buffer and the batches, which have to agree in bytes, report and status.
+//! of each. Then it runs chains by `threaded_call` whose gates check how the stages work at once, one of them by `tsp_call`
+//! too, and chains with many sizes of the buffer and the batches, which have to agree in bytes, report and status.
 //!
 //! Where an argument is given, it names a list of calls, and only these are made (`tests/calls`).
 #![tactic(auto)]

@@ -1,14 +1,14 @@
-//! Chains by `threaded_call` whose gate checks how its stages work at once.
+//! Chains whose gate checks how the stages work at once: two by `threaded_call`, and one by `tsp_call`.
 use crate::following_gate::FollowingGate;
 use crate::inputs::Input;
 use crate::meeting_gate::MeetingGate;
 use crate::outcome::write_outcome;
-use crate::trial::{Case, by_threaded_call, words_of};
+use crate::trial::{Case, by_threaded_call, by_tsp_call, words_of};
 use row_tools::{ORDINARY, Page};
 use std::alloc::AllocError;
 use std::io;
 use std::sync::Wait;
-use std::thread::Threads;
+use std::thread::{Threads, available_parallelism};
 use ts_outside::Gate;
 
 const MEETING_WORDS: &str = "--max-flushed-packets 1 -I null 8 -P skip 0 -P skip 0 -O drop";
@@ -18,12 +18,16 @@ const FOLLOWING_WORDS: &str =
 
 const BUFFER: u64 = 4;
 
-/// Runs both chains, and prints what their gates saw.
+/// Where `tsp_call` may use so many processors, each stage has a thread.
+const PROCESSORS_FOR_THREADS: usize = 2;
+
+/// Runs the chains, and prints what their gates saw.
 pub(crate) fn print_threads<R: Threads + Wait + Sync + Print + AllocGlobal>(
     rt: &R,
 ) -> io::Result<()> {
     let mut page = Page::new(rt.alloc());
     write_meeting(rt, &mut page)?;
+    write_meeting_by_tsp_call(rt, &mut page)?;
     write_following(rt, &mut page)?;
     page.print(rt)
 }
@@ -40,6 +44,42 @@ fn write_meeting<R: Threads + Wait + Sync + AllocGlobal>(
     page.add(gate.have_met());
     page.text("\n");
     Ok(())
+}
+
+/// The same two stages by `tsp_call`, the call that the program makes. With one processor the run is passed over, and
+/// what is written is the same.
+fn write_meeting_by_tsp_call<R: Threads + Wait + Sync + AllocGlobal>(
+    rt: &R,
+    page: &mut Page,
+) -> Result<(), AllocError> {
+    let is_so = has_one_processor(rt) || have_met_by_tsp_call(rt)?;
+    page.text("two stages meet by tsp_call, where there are two processors: ");
+    page.add(is_so);
+    page.text("\n");
+    Ok(())
+}
+
+/// Whether the program may use one processor alone. Where the system does not say, it is taken for more.
+fn has_one_processor<R: Threads>(rt: &R) -> bool {
+    match available_parallelism(rt) {
+        Ok(processors) => processors.get() < PROCESSORS_FOR_THREADS,
+        Err(_) => false,
+    }
+}
+
+/// Whether two stages met that `tsp_call` drives.
+fn have_met_by_tsp_call<R: Threads + Wait + Sync + AllocGlobal>(
+    rt: &R,
+) -> Result<bool, AllocError> {
+    let words = words_of(rt.alloc(), MEETING_WORDS)?;
+    let gate = MeetingGate::between(1, 2);
+    let case = Case {
+        words: words.as_slice(),
+        input: Input::Pids(&[]),
+        plan: ORDINARY,
+    };
+    by_tsp_call(rt, case, &gate)?;
+    Ok(gate.have_met())
 }
 
 /// Two stages over a buffer of four cells.
