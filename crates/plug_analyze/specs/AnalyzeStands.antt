@@ -1,6 +1,8 @@
 -- The cells that a value of `analyze` stands for. This project's own rule.
-use Rattle.std.specs.Prelude.{◌≡◌, ◌≤◌, Bool, false, ℕ, List, length, Option, None}
+use Rattle.std.specs.Prelude.{◌≡◌, ◌≤◌, ◌<◌, Bool, false, ℕ, List, length, Option, None}
 use Rattle.ts_packet.specs.declared.cell.Cell.{Cell}
+use Rattle.ts_packet.specs.Cells.{live_packets}
+use Rattle.plug_psi.specs.InForce.{may_have_tables}
 use Rattle.plug_analyze.specs.AnalyzeState.{Analyzes, AnalyzesSome}
 use Rattle.plug_analyze.specs.declared.analyze.Analyze.{Analyze}
 
@@ -23,6 +25,14 @@ MeetsHistory s history mark = (has_failed s ≡ false → StandsFor s history ma
 -- it names no number of positions at which it never runs out of memory, since its tables grow
 abbrev pub steady_of : Analyze → Option ℕ
 steady_of s = None
+
+-- whether there is room for one more note
+abbrev pub HasNoteRoom : Analyze → Type 0
+HasNoteRoom s = length s.noted.notes.items < s.noted.notes.capacity
+
+-- whether tables in force may come with a packet on a PID, after these cells
+abbrev pub may_come : ℕ → List Cell → Bool
+may_come pid history = may_have_tables pid (live_packets history)
 
 -- for how many notes of packets it has room, and for how many changes of the services in force
 abbrev pub room_for_notes : Analyze → ℕ

@@ -28,13 +28,14 @@ pub struct Analyze {
 }
 
 impl Analyze {
-    ghost use Rattle.std.specs.Prelude.{◌≡◌, ◌<◌, ◌∷◌, ◌++◌, IfOk, OnOk, OnErr, IsErr, [], None, ℕ, List, length, true, false};
+    ghost use Rattle.std.specs.Prelude.{◌≡◌, ◌<◌, ◌∷◌, ◌++◌, IfOk, OnOk, OnErr, IsErr, IsOk, [], None, ℕ, List, length, true, false};
     ghost use Rattle.ts_packet.specs.declared.cell.Cell.{Cell as GivenCell};
     ghost use Rattle.ts_packet.specs.Cells.{Live};
+    ghost use Rattle.ts_packet.specs.Header.{pid_of};
     ghost use Rattle.chain_model.specs.declared.positions.TheConstants.{POSITION_LIMIT};
     ghost use Rattle.plug_analyze.specs.AnalyzeRule.{analyze_rule};
     ghost use Rattle.plug_analyze.specs.AnalyzeSettings.{IsLawfulAnalyze};
-    ghost use Rattle.plug_analyze.specs.AnalyzeStands.{StandsFor, StandsForSome, has_failed, room_for_changes, room_for_notes};
+    ghost use Rattle.plug_analyze.specs.AnalyzeStands.{HasNoteRoom, StandsFor, StandsForSome, has_failed, may_come, room_for_changes, room_for_notes};
 
     /// A new plugin, which has processed no cell. It allocates its tables, and room for notes on as many packets as
     /// the buffer holds; the tables in force grow with the stream.
@@ -63,6 +64,8 @@ impl Analyze {
         requires in_range { at < POSITION_LIMIT }
         ensures met { OnOk result ((history : List GivenCell) (mark : ℕ) → StandsFor self.old history mark → length history ≡ at → (labels : ℕ)
             → StandsFor self.new (history ++ Live packet.now labels ∷ []) mark) }
+        ensures quiet { (history : List GivenCell) (mark : ℕ) → has_failed self.old ≡ false → StandsFor self.old history mark
+            → may_come (pid_of packet.now) history ≡ false → HasNoteRoom self.old → IsOk result }
         ensures spent { OnErr result (has_failed self.new ≡ true) }
         ensures stays_spent { has_failed self.old ≡ true → IsErr result }
         ensures reserved_notes { room_for_notes self.new ≡ room_for_notes self.old }
@@ -81,6 +84,8 @@ impl Analyze {
         requires in_range { at < POSITION_LIMIT }
         ensures met { OnOk result ((history : List GivenCell) (mark : ℕ) → StandsFor self.old history mark → length history ≡ at → (labels : ℕ)
             → StandsFor self.new (history ++ Live packet.now labels ∷ []) mark) }
+        ensures quiet { (history : List GivenCell) (mark : ℕ) → StandsFor self.old history mark
+            → may_come (pid_of packet.now) history ≡ false → HasNoteRoom self.old → IsOk result }
         ensures reserved_notes { room_for_notes self.new ≡ room_for_notes self.old }
         ensures reserved_changes { room_for_changes self.new ≡ room_for_changes self.old }
     {
@@ -99,13 +104,15 @@ impl Analyze {
 }
 
 impl Plugin for Analyze {
-    ghost use Rattle.std.specs.Prelude.{◌≡◌, ◌≢◌, ◌<◌, IsOk, IsSome, refl, true};
-    ghost use Rattle.ts_packet.specs.Cells.{Dropped};
+    ghost use Rattle.std.specs.Prelude.{◌≡◌, ◌≢◌, ◌<◌, ℕ, List, IsOk, IsSome, refl, true, false};
+    ghost use Rattle.ts_packet.specs.declared.cell.Cell.{Cell as GivenCell};
+    ghost use Rattle.ts_packet.specs.Cells.{Dropped, Live};
+    ghost use Rattle.ts_packet.specs.Header.{pid_of};
     ghost use Rattle.chain_model.specs.declared.positions.TheConstants.{POSITION_LIMIT};
     ghost use Rattle.plugin_trait.specs.Marks.{AllowsMark, Notes};
     ghost use Rattle.plugin_trait.specs.Steps.{HasRoom, Meets, MeetsCells, Tells};
     ghost use Rattle.plug_analyze.specs.AnalyzeRule.{analyze_rule};
-    ghost use Rattle.plug_analyze.specs.AnalyzeStands.{MeetsHistory, has_failed, room_for_changes, room_for_notes, steady_of};
+    ghost use Rattle.plug_analyze.specs.AnalyzeStands.{HasNoteRoom, MeetsHistory, StandsFor, has_failed, may_come, room_for_changes, room_for_notes, steady_of};
 
     ghost rule = { λ s. analyze_rule };
 
@@ -113,8 +120,9 @@ impl Plugin for Analyze {
 
     ghost steady = { λ s. steady_of s };
 
-    /// The clauses are those of `Plugin`, whose ghost members have no names here, and three more: a step that runs out
-    /// of memory leaves the plugin failed, and the room for notes and for changes stays the same.
+    /// The clauses are those of `Plugin`, whose ghost members have no names here, and four more: a packet on a PID on which no
+    /// table in force may come wants no memory but the room for its note, a step that runs out of memory leaves the plugin
+    /// failed, and the room for notes and for changes stays the same.
     // Inlined, since else the loop of `steps` makes a call for each cell.
     #[inline(always)]
     fn step(&mut self, at: u64, cell: &mut Cell) -> Outcome
@@ -125,6 +133,8 @@ impl Plugin for Analyze {
         ensures meets { Meets (MeetsHistory self.old) (MeetsHistory self.new) at cell.old result }
         ensures same_steady { steady_of self.new ≡ steady_of self.old }
         ensures room { HasRoom (steady_of self.old) (MeetsHistory self.old) at → result ≢ Outcome.NoMemory }
+        ensures quiet { (history : List GivenCell) (mark labels : ℕ) (packet : List ℕ) → has_failed self.old ≡ false → StandsFor self.old history mark
+            → cell.old ≡ Live packet labels → may_come (pid_of packet) history ≡ false → HasNoteRoom self.old → result ≢ Outcome.NoMemory }
         ensures spent { result ≡ Outcome.NoMemory → has_failed self.new ≡ true }
         ensures reserved_notes { room_for_notes self.new ≡ room_for_notes self.old }
         ensures reserved_changes { room_for_changes self.new ≡ room_for_changes self.old }

@@ -26,9 +26,11 @@ pub struct Services {
 }
 
 impl Services {
-    ghost use Rattle.std.specs.Prelude.{◌≡◌, ◌∷◌, ◌++◌, [], ℕ, List, IfOk, OnOk, length};
+    ghost use Rattle.std.specs.Prelude.{◌≡◌, ◌∷◌, ◌++◌, [], ℕ, List, IfOk, IsOk, OnOk, length, false};
     ghost use Rattle.ts_packet.specs.declared.cell.Cell.{Cell as GivenCell};
-    ghost use Rattle.ts_packet.specs.Cells.{Live};
+    ghost use Rattle.ts_packet.specs.Cells.{Live, live_packets};
+    ghost use Rattle.ts_packet.specs.Header.{pid_of};
+    ghost use Rattle.plug_psi.specs.InForce.{may_have_tables};
     ghost use Rattle.plug_analyze.specs.AnalyzeState.{Serves};
     ghost use Rattle.plug_analyze.specs.ServicesKept.{DropsChanges};
 
@@ -55,6 +57,8 @@ impl Services {
     pub fn meet(&mut self, at: u64, packet: &Packet) -> Result<(), AllocError>
         ensures serves { OnOk result ((history : List GivenCell) (mark : ℕ) → Serves self.old history mark → length history ≡ at → (labels : ℕ)
             → Serves self.new (history ++ Live packet.now labels ∷ []) mark) }
+        ensures quiet { (history : List GivenCell) (mark : ℕ) → Serves self.old history mark
+            → may_have_tables (pid_of packet.now) (live_packets history) ≡ false → IsOk result }
         ensures reserved { self.new.changes.capacity ≡ self.old.changes.capacity }
     {
         if !self.force.update(at, packet)? {

@@ -17,10 +17,13 @@ pub struct LateLine {
 }
 
 impl LateLine {
-    ghost use Rattle.std.specs.Prelude.{◌≡◌, ◌≤◌, ℕ, List, [], ◌∷◌, ◌++◌, IfOk, OnOk, OnErr, IsErr, true};
+    ghost use Rattle.std.specs.Prelude.{◌≡◌, ◌≤◌, ℕ, List, [], ◌∷◌, ◌++◌, IfOk, OnOk, OnErr, IsErr, IsOk, true, false};
     ghost use Rattle.circular_buffer.specs.Buffer.{keep_last};
     ghost use Rattle.plug_psi.specs.ReferredStands.{StandsFor as Refers, has_failed};
     ghost use Rattle.ts_packet.specs.declared.labelled.Labelled.{Labelled as Row};
+    ghost use Rattle.ts_packet.specs.Header.{pid_of};
+    ghost use Rattle.ts_packet.specs.LiveRows.{packets_in};
+    ghost use Rattle.plug_psi.specs.Referred.{may_name_pids};
     ghost use Rattle.plug_window.specs.RmorphanRule.{is_referred, delayed, picked, refers_to};
     ghost use Rattle.plug_window.specs.LateState.{StandsFor, leaves};
 
@@ -36,13 +39,15 @@ impl LateLine {
     }
 
     /// Takes the packet at a position in, and returns the one that came in a window before it, if the packets up to the current one
-    /// refer to its PID. After `AllocError` every later call returns `AllocError`.
+    /// refer to its PID. A packet on a PID without a table that names PIDs wants no memory. After `AllocError` every later call
+    /// returns `AllocError`.
     #[inline]
     pub fn turn(&mut self, at: u64, came: Labelled) -> Result<Option<Labelled>, AllocError>
         ensures given { IfOk result (λ given. (rows : List Row) → StandsFor self.old rows
             → given ≡ delayed is_referred self.old.late.capacity rows came) }
         ensures stands { OnOk result ((rows : List Row) → StandsFor self.old rows → StandsFor self.new (rows ++ came ∷ [])) }
         ensures window { self.new.late.capacity ≡ self.old.late.capacity }
+        ensures quiet { (rows : List Row) → StandsFor self.old rows → may_name_pids (pid_of came.packet) (packets_in rows) ≡ false → IsOk result }
         ensures spent { OnErr result (has_failed self.new.referred ≡ true) }
         ensures stays_spent { has_failed self.old.referred ≡ true → IsErr result }
     {

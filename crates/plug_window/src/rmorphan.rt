@@ -39,20 +39,38 @@ impl Rmorphan {
 }
 
 impl Plugin for Rmorphan {
-    ghost use Rattle.std.specs.Prelude.{None, refl, true};
+    ghost use Rattle.std.specs.Prelude.{◌≡◌, ◌≢◌, ◌<◌, ℕ, List, refl, true, false};
+    ghost use Rattle.ts_packet.specs.declared.cell.Cell.{Cell as GivenCell};
+    ghost use Rattle.ts_packet.specs.Cells.{Dropped, Live};
+    ghost use Rattle.ts_packet.specs.Header.{pid_of};
+    ghost use Rattle.chain_model.specs.declared.positions.TheConstants.{POSITION_LIMIT};
+    ghost use Rattle.plugin_trait.specs.Steps.{HasRoom, MeetsCells, Tells, Meets};
     ghost use Rattle.plug_window.specs.RmorphanRule.{rmorphan_rule};
-    ghost use Rattle.plug_window.specs.RmorphanState.{conf_of, MeetsHistory};
+    ghost use Rattle.plug_window.specs.RmorphanState.{conf_of, may_name, steady_of, Delays, MeetsHistory};
 
     ghost rule = { λ s. rmorphan_rule (conf_of s) };
 
     ghost stands_for = { λ s history mark. MeetsHistory s history mark };
 
-    ghost steady = { λ s. None };
+    ghost steady = { λ s. steady_of s };
 
     ghost silent = { λ _. true };
 
+    /// The clauses are those of `Plugin`, whose ghost members have no names here, and one more: a packet on a PID without a
+    /// table that names PIDs wants no memory.
     #[inline]
-    fn step(&mut self, at: u64, cell: &mut Cell) -> Outcome {
+    fn step(&mut self, at: u64, cell: &mut Cell) -> Outcome
+        requires met { MeetsCells (MeetsHistory self.old) at }
+        requires in_range { at < POSITION_LIMIT }
+        ensures tells { Tells (rmorphan_rule (conf_of self.old)) (MeetsHistory self.old) at cell.old result cell.new }
+        ensures dropped { cell.old ≡ Dropped → result ≡ Outcome.Pass }
+        ensures meets { Meets (MeetsHistory self.old) (MeetsHistory self.new) at cell.old result }
+        ensures same_rule { rmorphan_rule (conf_of self.new) ≡ rmorphan_rule (conf_of self.old) }
+        ensures same_steady { steady_of self.new ≡ steady_of self.old }
+        ensures room { HasRoom (steady_of self.old) (MeetsHistory self.old) at → result ≢ Outcome.NoMemory }
+        ensures quiet { (history : List GivenCell) (labels : ℕ) (packet : List ℕ) → Delays self.old history → cell.old ≡ Live packet labels
+            → may_name (pid_of packet) history ≡ false → result ≢ Outcome.NoMemory }
+    {
         let Some(live) = cell.live() else {
             return Outcome::Pass;
         };

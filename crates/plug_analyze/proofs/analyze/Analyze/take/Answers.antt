@@ -1,4 +1,4 @@
-use Rattle.std.proofs.Common.{ℕ, not, ◌==◌, sym, ap, ◌∙◌, arith}
+use Rattle.std.proofs.Common.{ℕ, not, true≢false, ◌==◌, sym, ap, ◌∙◌, arith}
 use Rattle.std.specs.Prelude.{is_some}
 use Rattle.plug_analyze.proofs.Analyzing.{analyzes_live, note_is}
 use Rattle.plug_analyze.proofs.analyze.Analyze.take.Goals as goal
@@ -13,3 +13,6 @@ returns-clause-met c = λ history mark s count labels.
     (c.meet_counter.ensures.fault history s.remembers count)
     (c.is_some.ensures ∙ ap is_some c.pcr.ensures.value))
     c.in_ok-push.ensures.notes c.in_ok-push.ensures.totals
+
+pub returns-in_err-meet-clause-quiet : goal.returns-in_err-meet-clause-quiet
+returns-in_err-meet-clause-quiet c = λ history mark s none room. absurd (true≢false (sym (c.in_err-meet.ensures.quiet history mark s.serves none)))

@@ -167,7 +167,15 @@ pub step-requires-in-Rmorphan : goal.step-requires-in-Rmorphan
 step-requires-in-Rmorphan c = rw c.in-Rmorphan.is at c.requires
 
 pub returns-in-Rmorphan : goal.returns-in-Rmorphan
-returns-in-Rmorphan c = rw c.in-Rmorphan.is c.step-in-Rmorphan.ensures
+returns-in-Rmorphan c = rw c.in-Rmorphan.is (record {
+  tells = c.step-in-Rmorphan.ensures.tells;
+  dropped = c.step-in-Rmorphan.ensures.dropped;
+  meets = c.step-in-Rmorphan.ensures.meets;
+  same_rule = c.step-in-Rmorphan.ensures.same_rule;
+  same_steady = c.step-in-Rmorphan.ensures.same_steady;
+  room = c.step-in-Rmorphan.ensures.room;
+  same_silent = refl;
+})
 
 pub step-requires-in-Pcrverify : goal.step-requires-in-Pcrverify
 step-requires-in-Pcrverify c = rw c.in-Pcrverify.is at c.requires

@@ -1,4 +1,4 @@
-use Rattle.std.proofs.Common.{refl, ◌≡◌, ℕ, ◌≤◌, ap, List, [], ◌∷◌, ◌++◌, sym, ◌∙◌, subst}
+use Rattle.std.proofs.Common.{refl, true≢false, ◌≡◌, ℕ, ◌≤◌, ap, List, [], ◌∷◌, ◌++◌, sym, ◌∙◌, subst}
 use Rattle.std.proofs.lemmas.List.{map-append}
 use Rattle.ts_packet.specs.declared.labelled.Labelled.{Labelled}
 use Rattle.ts_packet.specs.LiveRows.{packets_in}
@@ -33,3 +33,6 @@ returns-clause-stands c = λ rows stands.
           ∙ (kept-last line.late.capacity rows came ∙ ap (λ (n : ℕ). keep_last n (rows ++ came ∷ [])) (sym window)));
       referred = subst (λ referred. Refers referred (packets_in (rows ++ came ∷ []))) (sym c.shift-given.ensures.same) referred;
     }
+
+pub returns-in_err-feed-clause-quiet : goal.returns-in_err-feed-clause-quiet
+returns-in_err-feed-clause-quiet c = λ rows stands none. absurd (true≢false (sym (c.in_err-feed.ensures.quiet (packets_in rows) stands.referred none)))
