@@ -1,5 +1,6 @@
 -- The lemmas of `info_texts`.
 pub mod LineLemmas
 pub mod JsonLemmas
+pub mod MarkLemmas
 pub mod PlainLemmas
 mod Rows

@@ -15,7 +15,7 @@ take_below-answer-requires c = record {
 pub returns-clause-notes : goal.returns-clause-notes
 returns-clause-notes c =
     let met : (history : List Cell) (before : ℕ) → HasMet c.args.self.now.met history before → before ≤ c.args.written → c.args.written ≤ length history
-            → HasMet c.take_below-answer.new.self history c.args.written =
+    → HasMet c.take_below-answer.new.self history c.args.written =
     subst (λ r. OnOk r ((history : List Cell) (before : ℕ) → HasMet c.args.self.now.met history before → before ≤ c.args.written → c.args.written ≤ length history
-        → HasMet c.take_below-answer.new.self history c.args.written)) (sym c.in_ok-note.ensures.same) c.take_below-answer.ensures.met in
+    → HasMet c.take_below-answer.new.self history c.args.written)) (sym c.in_ok-note.ensures.same) c.take_below-answer.ensures.met in
     λ history mark s later within. (λ _. met history mark (s.0 (sym c.is_set.ensures ∙ c.if-is_set.false)) later within, within)
