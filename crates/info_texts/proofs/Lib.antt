@@ -2,5 +2,6 @@
 pub mod LineLemmas
 pub mod RoundLemmas
 pub mod JsonLemmas
+pub mod MarkLemmas
 pub mod PlainLemmas
 mod Rows

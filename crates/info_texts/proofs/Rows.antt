@@ -17,15 +17,15 @@ abbrev marked : List TaggedBody
 marked = record { tag = 0x05; body = codes "Opus" } ∷ record { tag = 0x7F; body = 0x15 ∷ [] } ∷ record { tag = 0x7F; body = 0x15 ∷ 0 ∷ [] }
     ∷ record { tag = 0x0A; body = codes "eng" ++ (3 ∷ (codes "eng" ++ (0 ∷ (codes "fra" ++ (0 ∷ []))))) } ∷ []
 
-marks-row : marks_text marked ≡ codes " codec Opus codec AC-4 language \"eng\" language \"fra\""
-unfolding numbers_below
+marks-row : marks_text marked (0x0B00 ∷ []) ≡ codes " codec Opus codec AC-4 language \"eng\" language \"fra\" audio_type 3 ca 2816"
+unfolding digits numbers_below
 marks-row = refl
 
-marks-json : component_marks marked ≡ codes ",\"languages\":[\"eng\",\"fra\"],\"codecs\":[\"Opus\",\"AC-4\"],"
-unfolding numbers_below chars encode
+marks-json : component_marks marked (0x0B00 ∷ []) ≡ codes ",\"languages\":[\"eng\",\"fra\"],\"codecs\":[\"Opus\",\"AC-4\"],\"audio_type\":3,\"ca\":[2816],"
+unfolding digits numbers_below chars encode
 marks-json = refl
 
-marks-none : marks_text (record { tag = 0x05; body = codes "a\"bc" } ∷ record { tag = 0x05; body = codes "AC" } ∷ record { tag = 0x7F; body = [] } ∷ []) ≡ []
+marks-none : marks_text (record { tag = 0x05; body = codes "a\"bc" } ∷ record { tag = 0x05; body = codes "AC" } ∷ record { tag = 0x7F; body = [] } ∷ []) [] ≡ []
 unfolding numbers_below
 marks-none = refl
 
@@ -196,13 +196,13 @@ json-type_none : type_json None ≡ codes "null,\"type_name\":null"
 json-type_none = refl
 
 -- a component with a language and no codec, which two services have, without a rate
-json-component : component_json (record { whole = 8; extent = 8; rate = None }) 256 3 (record { tag = 0x0A; body = codes "eng" ++ (0 ∷ []) } ∷ []) (record { packets = 4; scrambled = 1; faults = 2 }) 2
-    ≡ codes "{\"pid\":256,\"stream_type\":3,\"stream_type_name\":\"MPEG-1 audio\",\"languages\":[\"eng\"],\"codecs\":[],\"packets\":4,\"bitrate\":null,\"scrambled\":1,\"faults\":2,\"services\":2}"
+json-component : component_json (record { whole = 8; extent = 8; rate = None }) 256 3 (record { tag = 0x0A; body = codes "eng" ++ (0 ∷ []) } ∷ []) [] (record { packets = 4; scrambled = 1; faults = 2 }) 2
+    ≡ codes "{\"pid\":256,\"stream_type\":3,\"stream_type_name\":\"MPEG-1 audio\",\"languages\":[\"eng\"],\"codecs\":[],\"audio_type\":null,\"ca\":[],\"packets\":4,\"bitrate\":null,\"scrambled\":1,\"faults\":2,\"services\":2}"
 unfolding digits numbers_below chars encode
 json-component = refl
 
 -- a stream without tables
-json-whole : whole_json (stream_json (record { packets = 2; extent = 2; stream_id = None; rate = None; breaks = None; nulls = 2; errored = 0; scrambled = 0; faults = 0 })) (codes "null") (array []) (array [])
-    ≡ codes "{\"stream\":{\"packets\":2,\"bytes\":376,\"transport_stream_id\":null,\"bitrate\":null,\"breaks\":null,\"nulls\":2,\"errored\":0,\"scrambled\":0,\"faults\":0},\"sdt_transport_stream_id\":null,\"services\":[],\"pids\":[]}"
+json-whole : whole_json (stream_json (record { packets = 2; extent = 2; stream_id = None; rate = None; breaks = None; nulls = 2; errored = 0; scrambled = 0; faults = 0 })) (codes "null") (array []) (array []) (array [])
+    ≡ codes "{\"stream\":{\"packets\":2,\"bytes\":376,\"transport_stream_id\":null,\"bitrate\":null,\"breaks\":null,\"nulls\":2,\"errored\":0,\"scrambled\":0,\"faults\":0},\"sdt_transport_stream_id\":null,\"ca\":[],\"services\":[],\"pids\":[]}"
 unfolding digits
 json-whole = refl

@@ -10,7 +10,7 @@ use Rattle.ts_packet.specs.declared.numbers.TheConstants.{PACKET_SIZE}
 use Rattle.plugin_notes.specs.PidPackets.{numbers_below}
 use Rattle.info_texts.specs.InfoNames.{service_type_names, stream_type_names, text_for}
 use Rattle.info_texts.specs.InfoTexts.{hex_text, rate_part}
-use Rattle.info_texts.specs.Marks.{codecs_of, languages_of}
+use Rattle.info_texts.specs.Marks.{audio_type_of, codecs_of, languages_of}
 use Rattle.info_texts.specs.PlainTexts.{escaped, is_harmless}
 use Rattle.info_texts.specs.ServiceNames.{name_in, provider_in, type_in}
 use Rattle.info_texts.specs.declared.pid_numbers.PidNumbers.{PidNumbers}
@@ -111,9 +111,22 @@ abbrev pub service_tail : ℕ → Option ℕ → List ℕ → List ℕ → List 
 service_tail pmt pcr portion components = codes ",\"pmt\":" ++ (decimal pmt ++ (codes ",\"pcr\":" ++ (number_or_null pcr
     ++ (codes "," ++ (portion ++ (codes ",\"components\":" ++ (components ++ codes "}")))))))
 
+-- `,"free_CA_mode":<n>,"running_status":<n>`
+abbrev pub status_json : Option (ℕ × ℕ) → List ℕ
+status_json None = codes ",\"free_CA_mode\":null,\"running_status\":null"
+status_json (Some status) = codes ",\"free_CA_mode\":" ++ (decimal status.0 ++ (codes ",\"running_status\":" ++ decimal status.1))
+
+-- `,"ca":<array>`, and what the SDT says of the service's access and its state
+abbrev pub service_marks : List ℕ → Option (ℕ × ℕ) → List ℕ
+service_marks ids status = codes ",\"ca\":" ++ (array (map decimal ids) ++ status_json status)
+
 -- the object of a service
-abbrev pub service_json : ℕ → ℕ → Option (List ℕ) → Option ℕ → List ℕ → List ℕ → List ℕ
-service_json id pmt body pcr portion components = service_head id body ++ service_tail pmt pcr portion components
+abbrev pub service_json : ℕ → ℕ → Option (List ℕ) → Option ℕ → List ℕ → List ℕ → List ℕ → List ℕ
+service_json id pmt body pcr portion marks components = service_head id body ++ (marks ++ service_tail pmt pcr portion components)
+
+-- `{"id":<CA_system_id>,"emm":<pid>}`
+abbrev pub ca_json : ℕ → ℕ → List ℕ
+ca_json id pid = codes "{\"id\":" ++ (decimal id ++ (codes ",\"emm\":" ++ (decimal pid ++ codes "}")))
 
 -- a language: as a text, if its bytes are one without control characters, else as digits after `0x`
 abbrev pub language_json : List ℕ → List ℕ
@@ -124,10 +137,11 @@ abbrev pub component_head : ℕ → ℕ → List ℕ
 component_head pid kind = codes "{\"pid\":" ++ (decimal pid ++ (codes ",\"stream_type\":" ++ (decimal kind
     ++ (codes ",\"stream_type_name\":" ++ name_or_null (text_for stream_type_names kind)))))
 
--- `,"languages":<array>,"codecs":<array>,`
-abbrev pub component_marks : List TaggedBody → List ℕ
-component_marks ds = codes ",\"languages\":" ++ (array (map language_json (languages_of ds))
-    ++ (codes ",\"codecs\":" ++ (array (map quoted (codecs_of ds)) ++ codes ",")))
+-- `,"languages":<array>,"codecs":<array>,"audio_type":<n>,"ca":<array>,`
+abbrev pub component_marks : List TaggedBody → List ℕ → List ℕ
+component_marks ds ids = codes ",\"languages\":" ++ (array (map language_json (languages_of ds))
+    ++ (codes ",\"codecs\":" ++ (array (map quoted (codecs_of ds))
+    ++ (codes ",\"audio_type\":" ++ (number_or_null (audio_type_of ds) ++ (codes ",\"ca\":" ++ (array (map decimal ids) ++ codes ",")))))))
 
 -- its share, its scrambled and faulty packets, and `,"services":<n>}`: how many services have it
 abbrev pub component_tail : Scene → PidNumbers → ℕ → List ℕ
@@ -135,15 +149,15 @@ component_tail scene numbers users = portion_json scene numbers.packets
     ++ (troubles_json numbers ++ (codes ",\"services\":" ++ (decimal users ++ codes "}")))
 
 -- the object of a component
-abbrev pub component_json : Scene → ℕ → ℕ → List TaggedBody → PidNumbers → ℕ → List ℕ
-component_json scene pid kind ds numbers users = component_head pid kind ++ (component_marks ds ++ component_tail scene numbers users)
+abbrev pub component_json : Scene → ℕ → ℕ → List TaggedBody → List ℕ → PidNumbers → ℕ → List ℕ
+component_json scene pid kind ds ids numbers users = component_head pid kind ++ (component_marks ds ids ++ component_tail scene numbers users)
 
 -- `{"pid":<pid>,"use":"<use>",` its share, its scrambled and faulty packets
 abbrev pub pid_json : ℕ → List ℕ → List ℕ → PidNumbers → List ℕ
 pid_json pid purpose portion numbers = codes "{\"pid\":" ++ (decimal pid ++ (codes ",\"use\":\"" ++ (purpose ++ (codes "\"," ++ (portion
     ++ (troubles_json numbers ++ codes "}"))))))
 
--- `{"stream":<object>,"sdt_transport_stream_id":<id>,"services":<array>,"pids":<array>}`
-abbrev pub whole_json : List ℕ → List ℕ → List ℕ → List ℕ → List ℕ
-whole_json stream sdt services pids = codes "{\"stream\":" ++ (stream ++ (codes ",\"sdt_transport_stream_id\":" ++ (sdt
-    ++ (codes ",\"services\":" ++ (services ++ (codes ",\"pids\":" ++ (pids ++ codes "}")))))))
+-- `{"stream":<object>,"sdt_transport_stream_id":<id>,"ca":<array>,"services":<array>,"pids":<array>}`
+abbrev pub whole_json : List ℕ → List ℕ → List ℕ → List ℕ → List ℕ → List ℕ
+whole_json stream sdt cas services pids = codes "{\"stream\":" ++ (stream ++ (codes ",\"sdt_transport_stream_id\":" ++ (sdt
+    ++ (codes ",\"ca\":" ++ (cas ++ (codes ",\"services\":" ++ (services ++ (codes ",\"pids\":" ++ (pids ++ codes "}")))))))))

@@ -8,7 +8,7 @@ use Rattle.ts_fields.specs.Texts.{text_of}
 use Rattle.ts_packet.specs.declared.numbers.TheConstants.{PACKET_SIZE}
 use Rattle.plugin_notes.specs.PidPackets.{numbers_below}
 use Rattle.info_texts.specs.InfoNames.{service_type_names, stream_type_names, text_for}
-use Rattle.info_texts.specs.Marks.{codecs_of, languages_of}
+use Rattle.info_texts.specs.Marks.{audio_type_of, codecs_of, languages_of}
 use Rattle.info_texts.specs.PlainTexts.{is_plain}
 use Rattle.info_texts.specs.Rounding.{rounded}
 use Rattle.info_texts.specs.ServiceNames.{name_in, provider_in, type_in}
@@ -103,9 +103,26 @@ service_head id body = codes "service " ++ (decimal id ++ (codes " type " ++ (ty
 abbrev pub service_tail : ℕ → Option ℕ → List ℕ → List ℕ
 service_tail pmt pcr portion = codes " pmt " ++ (decimal pmt ++ (codes " pcr " ++ (number_or_none pcr ++ portion)))
 
+-- ` ca <id>`
+abbrev pub ca_text : ℕ → List ℕ
+ca_text id = codes " ca " ++ decimal id
+
+-- ` free_CA_mode <0|1> running_status <n>`, if the SDT has the service
+abbrev pub status_text : Option (ℕ × ℕ) → List ℕ
+status_text None = []
+status_text (Some status) = codes " free_CA_mode " ++ (decimal status.0 ++ (codes " running_status " ++ decimal status.1))
+
+-- the CA_system_ids of a service, and what the SDT says of its access and its state
+abbrev pub service_marks : List ℕ → Option (ℕ × ℕ) → List ℕ
+service_marks ids status = flat_map ca_text ids ++ status_text status
+
 -- the line of a service
-abbrev pub service_text : ℕ → ℕ → Option (List ℕ) → Option ℕ → List ℕ → List ℕ
-service_text id pmt body pcr portion = service_head id body ++ service_tail pmt pcr portion
+abbrev pub service_text : ℕ → ℕ → Option (List ℕ) → Option ℕ → List ℕ → List ℕ → List ℕ
+service_text id pmt body pcr portion marks = service_head id body ++ (service_tail pmt pcr portion ++ marks)
+
+-- `ca <CA_system_id> emm <pid>`
+abbrev pub ca_line : ℕ → ℕ → List ℕ
+ca_line id pid = codes "ca " ++ (decimal id ++ (codes " emm " ++ decimal pid))
 
 -- ` codec <name>`
 abbrev pub codec_text : List ℕ → List ℕ
@@ -115,9 +132,15 @@ codec_text name = codes " codec " ++ name
 abbrev pub language_text : List ℕ → List ℕ
 language_text code = codes " language " ++ shown code
 
--- the codecs of a list of descriptors, and behind them the languages
-abbrev pub marks_text : List TaggedBody → List ℕ
-marks_text ds = flat_map codec_text (codecs_of ds) ++ flat_map language_text (languages_of ds)
+-- ` audio_type <n>`, if there is one
+abbrev pub audio_text : Option ℕ → List ℕ
+audio_text None = []
+audio_text (Some kind) = codes " audio_type " ++ decimal kind
+
+-- the codecs of a list of descriptors, the languages, the audio_type, and the CA_system_ids
+abbrev pub marks_text : List TaggedBody → List ℕ → List ℕ
+marks_text ds ids = flat_map codec_text (codecs_of ds)
+    ++ (flat_map language_text (languages_of ds) ++ (audio_text (audio_type_of ds) ++ flat_map ca_text ids))
 
 -- ` scrambled <n> faults <n>`
 abbrev pub troubles_text : PidNumbers → List ℕ

@@ -5,6 +5,7 @@
 -- project's own rule.
 use Rattle.std.specs.Prelude.{ℕ, ◌+◌, ◌%◌, ◌==◌, Bool, not, ◌&&◌, List, [], ◌∷◌, ◌++◌, length, take, drop, fold, nat_le, Option, None, Some, option_to_list, if◌then◌else◌}
 use Rattle.std.specs.List.{flat_map, list_all, list_any}
+use Rattle.std.specs.Option.{option_or}
 use Rattle.std.specs.Str.{bytes_eq}
 use Rattle.ts_bits.specs.TaggedBody.{TaggedBody}
 use Rattle.ts_fields.specs.Reading.{are_printable}
@@ -53,6 +54,19 @@ languages_by step body = flat_map (language_at step body) (numbers_below (length
 -- the languages of a descriptor
 abbrev pub languages_in : TaggedBody → List (List ℕ)
 languages_in d = languages_by (language_step d.tag) d.body
+
+-- the first audio_type that is not 0 in the entries of an ISO_639_language_descriptor, of four bytes each
+abbrev pub audio_type_in : List ℕ → Option ℕ
+audio_type_in (a ∷ b ∷ c ∷ kind ∷ entries) = if kind == 0 then audio_type_in entries else Some kind
+audio_type_in _ = None
+
+-- the same of a descriptor with this tag and this body
+abbrev pub audio_type_by : ℕ → List ℕ → Option ℕ
+audio_type_by tag body = if tag == 0x0A then audio_type_in body else None
+
+-- the audio_type of a component: the first that is not 0
+abbrev pub audio_type_of : List TaggedBody → Option ℕ
+audio_type_of ds = fold (λ found d. option_or found (audio_type_by d.tag d.body)) None ds
 
 -- whether one of some texts is this one
 abbrev pub has_text : List (List ℕ) → List ℕ → Bool

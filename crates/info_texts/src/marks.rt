@@ -18,6 +18,9 @@ const IDENTIFIER_SIZE: usize = 4;
 /// The tag of a registration_descriptor (ISO/IEC 13818-1, 2.6.8).
 const REGISTRATION_TAG: u8 = 0x05;
 
+/// The tag of an ISO_639_language_descriptor (ISO/IEC 13818-1, 2.6.18).
+const LANGUAGE_TAG: u8 = 0x0A;
+
 /// The tag of an extension_descriptor (ETSI EN 300 468, 6.2.16).
 const EXTENSION_TAG: u8 = 0x7F;
 
@@ -119,7 +122,7 @@ fn language_step(tag: u8) -> usize
     ensures least { 3 ≤ result }
     ensures most { result ≤ 256 }
 {
-    if tag == 0x0A {
+    if tag == LANGUAGE_TAG {
         return 4;
     }
     if tag == 0x56 {
@@ -200,4 +203,42 @@ fn language_in(body: &[u8], place: usize) -> &[u8]
     let (_, behind) = body.split_at(place);
     let (language, _) = behind.split_at(LANGUAGE_SIZE);
     language
+}
+
+/// The first audio_type of a component that is not 0 (ISO/IEC 13818-1, 2.6.18).
+pub fn audio_type_of(descriptors: &[Descriptor]) -> Option<u8>
+    ensures { result ≡ Marks.audio_type_of descriptors.now }
+{
+    let mut found = None;
+    for descriptor in descriptors {
+        found = found.or(audio_type_by(descriptor.tag(), descriptor.body()));
+    }
+    found
+}
+
+// The same of a descriptor with this tag and this body.
+fn audio_type_by(tag: u8, body: &[u8]) -> Option<u8>
+    ensures { result ≡ Marks.audio_type_by tag body.now }
+{
+    if tag == LANGUAGE_TAG {
+        audio_type_in(body)
+    } else {
+        None
+    }
+}
+
+// The same of the entries in a body, of four bytes each. It calls itself once an entry, so at most 63 times.
+fn audio_type_in(body: &[u8]) -> Option<u8>
+    ensures { result ≡ Marks.audio_type_in body.now }
+{
+    match body {
+        [_, _, _, kind, entries @ ..] => {
+            if *kind == 0 {
+                audio_type_in(entries)
+            } else {
+                Some(*kind)
+            }
+        }
+        _ => None,
+    }
 }

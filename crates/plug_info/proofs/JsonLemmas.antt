@@ -24,12 +24,13 @@ service_tail_is pid pcr pcr_new portion portion_new components components_new a 
     ap (λ (o : Option ℕ). service_tail pid o portion components) a
     ∙ (ap (λ (p : List ℕ). service_tail pid pcr_new p components) b ∙ ap (service_tail pid pcr_new portion_new) c)
 
-pub whole_is : (stream stream_new sdt sdt_new services services_new pids pids_new : List ℕ) → stream ≡ stream_new → sdt ≡ sdt_new → services ≡ services_new → pids ≡ pids_new
-    → whole_json stream sdt services pids ≡ whole_json stream_new sdt_new services_new pids_new
-whole_is stream stream_new sdt sdt_new services services_new pids pids_new a b c d =
-    ap (λ (x : List ℕ). whole_json x sdt services pids) a
-    ∙ (ap (λ (x : List ℕ). whole_json stream_new x services pids) b
-    ∙ (ap (λ (x : List ℕ). whole_json stream_new sdt_new x pids) c ∙ ap (whole_json stream_new sdt_new services_new) d))
+pub whole_is : (stream stream_new sdt sdt_new cas cas_new services services_new pids pids_new : List ℕ) → stream ≡ stream_new → sdt ≡ sdt_new → cas ≡ cas_new
+    → services ≡ services_new → pids ≡ pids_new → whole_json stream sdt cas services pids ≡ whole_json stream_new sdt_new cas_new services_new pids_new
+whole_is stream stream_new sdt sdt_new cas cas_new services services_new pids pids_new a b c d e =
+    ap (λ (x : List ℕ). whole_json x sdt cas services pids) a
+    ∙ (ap (λ (x : List ℕ). whole_json stream_new x cas services pids) b
+    ∙ (ap (λ (x : List ℕ). whole_json stream_new sdt_new x services pids) c
+    ∙ (ap (λ (x : List ℕ). whole_json stream_new sdt_new cas_new x pids) d ∙ ap (whole_json stream_new sdt_new cas_new services_new) e)))
 
 -- the object of a PID, each part of which is known
 abbrev pub pid_parts : ℕ → List ℕ → List ℕ → List ℕ → List ℕ

@@ -101,11 +101,12 @@ pub map_map : {X Y Z : Type 0} (f : Y → Z) (g : X → Y) (xs : List X) → map
 map_map f g [] = refl
 map_map f g (x ∷ xs) = ap (λ zs. f (g x) ∷ zs) (map_map f g xs)
 
--- four lists of lines, one after another
-pub four_pushed : (cut : ℕ) (lines a b c d : List Line) (stream : List ℕ) (xs ys zs : List (List ℕ)) → a ≡ lines ++ placed_at cut (stream ∷ []) → b ≡ a ++ placed_at cut xs
-    → c ≡ b ++ placed_at cut ys → d ≡ c ++ placed_at cut zs → d ≡ lines ++ placed_at cut ((stream ∷ xs) ++ (ys ++ zs))
-four_pushed cut lines a b c d stream xs ys zs p q r s =
-    pushed_after cut lines b d (stream ∷ xs) (ys ++ zs) (pushed_after cut lines a b (stream ∷ []) xs p q) (pushed_after cut b c d ys zs r s)
+-- five lists of lines, one after another
+pub five_pushed : (cut : ℕ) (lines a b c d e : List Line) (stream : List ℕ) (xs ys zs us : List (List ℕ)) → a ≡ lines ++ placed_at cut (stream ∷ []) → b ≡ a ++ placed_at cut xs
+    → c ≡ b ++ placed_at cut ys → d ≡ c ++ placed_at cut zs → e ≡ d ++ placed_at cut us → e ≡ lines ++ placed_at cut ((stream ∷ xs) ++ (ys ++ (zs ++ us)))
+five_pushed cut lines a b c d e stream xs ys zs us p q r s t =
+    pushed_after cut lines b e (stream ∷ xs) (ys ++ (zs ++ us)) (pushed_after cut lines a b (stream ∷ []) xs p q)
+    (pushed_after cut b c e ys (zs ++ us) r (pushed_after cut c d e zs us s t))
 
 -- the end of a component's line, each part of which is known
 pub tail_is : (scene scene_new : Scene) (numbers numbers_new : PidNumbers) (users users_new : ℕ) → scene ≡ scene_new → numbers ≡ numbers_new → users ≡ users_new

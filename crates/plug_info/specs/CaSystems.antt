@@ -1,8 +1,8 @@
 -- The conditional access systems that descriptors name. ISO/IEC 13818-1, 2.6.16: a CA_descriptor, tag 0x09, has a
 -- CA_system_id and a CA_PID: in a PMT that of ECMs, in a CAT (2.4.4.6) that of EMMs. A descriptor that is not of the
 -- standard's grammar is no CA_descriptor.
-use Rattle.std.specs.Prelude.{ℕ, List, [], ◌∷◌, ◌++◌, nat_eq, Option, Some, None, if◌then◌else◌}
-use Rattle.std.specs.List.{flat_map}
+use Rattle.std.specs.Prelude.{ℕ, ◌==◌, List, [], ◌∷◌, ◌++◌, fold, nat_eq, Option, Some, None, if◌then◌else◌}
+use Rattle.std.specs.List.{flat_map, list_any}
 use Rattle.ts_bits.specs.TaggedBody.{TaggedBody}
 use Rattle.ts_descr.specs.Descriptors.{Typed, read_typed}
 use Rattle.ts_descr_mpeg.specs.MpegDescrs.{mpeg_pages}
@@ -43,3 +43,20 @@ cat_systems (Some cat) = systems_of cat.body.descriptors
 -- the systems of the CAT in force
 abbrev pub emm_systems : List (List ℕ) → List CaSystem
 emm_systems packets = cat_systems (cat_of packets)
+
+-- numbers with one more, unless it is among them
+abbrev pub with_id : List ℕ → ℕ → List ℕ
+with_id ids id = if list_any (λ held. held == id) ids then ids else ids ++ id ∷ []
+
+-- the CA_system_ids of systems, of equal ones the first
+abbrev pub ids_of : List CaSystem → List ℕ
+ids_of systems = fold (λ ids system. with_id ids system.id) [] systems
+
+-- the CA_system_ids of descriptors, of equal ones the first
+abbrev pub system_ids : List TaggedBody → List ℕ
+system_ids descriptors = ids_of (systems_of descriptors)
+
+-- the descriptors of the program in a PMT
+abbrev pub program_descriptors : Option TableHolding → List TaggedBody
+program_descriptors None = []
+program_descriptors (Some pmt) = pmt.body.descriptors

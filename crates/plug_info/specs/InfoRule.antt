@@ -12,14 +12,19 @@ use Rattle.chain_model.specs.PluginRule.{PluginRule, passes}
 use Rattle.plugin_notes.specs.PidPackets.{numbers_below, packets_on}
 use Rattle.plug_psi.specs.InForce.{pat_of, pmt_of, services_in}
 use Rattle.plug_analyze.specs.AnalyzeRule.{fault_pids, is_scrambled}
-use Rattle.info_texts.specs.InfoJson.{array, component_json, number_or_null, pid_json, portion_json, service_json, stream_json, whole_json}
-use Rattle.info_texts.specs.InfoTexts.{component_text, marks_text, pid_text, portion_text, sdt_texts, service_text, stream_text}
+use Rattle.info_texts.specs.InfoJson
+use Rattle.info_texts.specs.InfoTexts
+use Rattle.info_texts.specs.InfoJson.{array, ca_json, component_json, number_or_null, pid_json, portion_json, service_json, stream_json, whole_json}
+use Rattle.info_texts.specs.InfoTexts.{ca_line, component_text, marks_text, pid_text, portion_text, sdt_texts, service_text, stream_text}
+use Rattle.plug_info.specs.CaSystems.{emm_systems, program_descriptors, system_ids}
 use Rattle.plug_info.specs.PacketExtent.{extent_of}
 use Rattle.plug_info.specs.PcrRate.{breaks_of, rate_of}
 pub use Rattle.plug_info.specs.PidUses.{use_of}
 pub use Rattle.plug_info.specs.PmtFields.{pcr_pid_in}
 use Rattle.plug_info.specs.SdtInForce.{is_number, items_in, sdt_of, service_body}
 pub use Rattle.plug_info.specs.SdtInForce.{stream_id_in}
+use Rattle.plug_info.specs.SdtStatus.{service_status}
+use Rattle.plug_info.specs.declared.ca_system.CaSystem.{CaSystem}
 use Rattle.plug_info.specs.declared.info_conf.InfoConf.{InfoConf}
 use Rattle.info_texts.specs.declared.pid_numbers.PidNumbers.{PidNumbers}
 use Rattle.info_texts.specs.declared.scene.Scene.{Scene}
@@ -68,7 +73,7 @@ service_packets pmt packets = fold (λ n pid. n + (if has_component pmt pid then
 abbrev pub component_line : List Cell → ℕ → ItemHolding → List ℕ
 component_line cells service x =
     let pid = unwrap_or (first_number (drop 1 x.values)) 0 in
-    component_text (scene_of cells) pid service (unwrap_or (first_number x.values) 0) (marks_text x.descriptors) (numbers_on pid cells)
+    component_text (scene_of cells) pid service (unwrap_or (first_number x.values) 0) (marks_text x.descriptors (system_ids x.descriptors)) (numbers_on pid cells)
     (users_of (live_packets cells) pid)
 
 -- the line of an entry of the PAT in force, with its description in the SDT in force
@@ -78,6 +83,7 @@ service_line cells service =
     let pmt = pmt_of service.0 (live_packets cells) in
     service_text service.0 service.1 body (pcr_pid_in pmt)
     (portion_text (scene_of cells) (service_packets pmt (live_packets cells)))
+    (InfoTexts.service_marks (system_ids (program_descriptors pmt)) (service_status (sdt_of (live_packets cells)) service.0))
 
 -- the lines of a service: its own, and those of the components of its PMT in force
 abbrev pub service_lines : List Cell → ℕ × ℕ → List (List ℕ)
@@ -92,20 +98,25 @@ pid_lines cells pid =
     (numbers_on pid cells) ∷ []
     else []
 
--- the report on a list of cells: the stream, the services of the PAT in force with their components, and the other
--- PIDs
+-- the line of a conditional access system of the CAT
+abbrev pub system_line : CaSystem → List ℕ
+system_line system = ca_line system.id system.pid
+
+-- the report on a list of cells: the stream, the conditional access systems of the CAT in force, the services of the PAT
+-- in force with their components, and the other PIDs
 abbrev pub info_on : List Cell → List (List ℕ)
 info_on cells =
     (stream_text (stream_numbers cells)
     ∷ sdt_texts (stream_id_in (pat_of (live_packets cells))) (stream_id_in (sdt_of (live_packets cells))))
+    ++ (map system_line (emm_systems (live_packets cells))
     ++ (flat_map (service_lines cells) (services_in (pat_of (live_packets cells)))
-    ++ flat_map (pid_lines cells) (numbers_below PID_COUNT))
+    ++ flat_map (pid_lines cells) (numbers_below PID_COUNT)))
 
 -- the object of a component of a service
 abbrev pub component_object : List Cell → ItemHolding → List ℕ
 component_object cells x =
     let pid = unwrap_or (first_number (drop 1 x.values)) 0 in
-    component_json (scene_of cells) pid (unwrap_or (first_number x.values) 0) x.descriptors
+    component_json (scene_of cells) pid (unwrap_or (first_number x.values) 0) x.descriptors (system_ids x.descriptors)
     (numbers_on pid cells) (users_of (live_packets cells) pid)
 
 -- the object of an entry of the PAT in force, with those of the components of its PMT in force
@@ -114,6 +125,7 @@ service_object cells service =
     let pmt = pmt_of service.0 (live_packets cells) in
     service_json service.0 service.1 (service_body (sdt_of (live_packets cells)) service.0) (pcr_pid_in pmt)
     (portion_json (scene_of cells) (service_packets pmt (live_packets cells)))
+    (InfoJson.service_marks (system_ids (program_descriptors pmt)) (service_status (sdt_of (live_packets cells)) service.0))
     (array (map (component_object cells) (items_in pmt)))
 
 -- the object of a PID that has packets and is not a component's
@@ -124,11 +136,16 @@ pid_objects cells pid =
     (numbers_on pid cells) ∷ []
     else []
 
+-- the object of a conditional access system of the CAT
+abbrev pub system_object : CaSystem → List ℕ
+system_object system = ca_json system.id system.pid
+
 -- the report on a list of cells as one JSON object
 abbrev pub json_on : List Cell → List ℕ
 json_on cells =
     whole_json (stream_json (stream_numbers cells))
     (number_or_null (stream_id_in (sdt_of (live_packets cells))))
+    (array (map system_object (emm_systems (live_packets cells))))
     (array (map (service_object cells) (services_in (pat_of (live_packets cells)))))
     (array (flat_map (pid_objects cells) (numbers_below PID_COUNT)))
 

@@ -16,6 +16,7 @@ pub mod PidUses
 pub mod PmtFields
 pub mod SdtInForce
 pub mod SdtStands
+pub mod SdtStatus
 pub mod TotalsOf
 pub mod Tracked
 pub mod UsesOf

@@ -1,6 +1,7 @@
 //! The conditional access systems that descriptors name.
-ghost use Rattle.std.specs.Prelude.{◌≡◌, ◌++◌, IfOk, OnOk, option_to_list};
-ghost use Rattle.plug_info.specs.CaSystems.{system_of, systems_of};
+ghost use Rattle.std.specs.Prelude.{◌≡◌, ◌==◌, ◌++◌, IfOk, OnOk, option_to_list};
+ghost use Rattle.std.specs.List.{list_any};
+ghost use Rattle.plug_info.specs.CaSystems.{ids_of, system_ids, system_of, systems_of, with_id};
 
 use std::alloc::{AllocError, Global};
 use ts_bits::Descriptor;
@@ -57,4 +58,48 @@ fn system_of(alloc: Global, descriptor: &Descriptor) -> Result<Option<CaSystem>,
         })),
         _ => Ok(None),
     }
+}
+
+/// The CA_system_ids of descriptors, in their order; of equal ones the first.
+pub fn system_ids(alloc: Global, descriptors: &[Descriptor]) -> Result<Vec<u16>, AllocError>
+    ensures { IfOk result (λ ids. ids.items ≡ system_ids descriptors.now) }
+{
+    let mut systems = Vec::new(alloc);
+    add_systems(alloc, &mut systems, descriptors)?;
+    let ids = ids_of(alloc, &systems)?;
+    Ok(ids)
+}
+
+// Those of systems.
+fn ids_of(alloc: Global, systems: &[CaSystem]) -> Result<Vec<u16>, AllocError>
+    ensures { IfOk result (λ ids. ids.items ≡ ids_of systems.now) }
+{
+    let mut ids = Vec::new(alloc);
+    for system in systems {
+        push_id(&mut ids, system.id)?;
+    }
+    Ok(ids)
+}
+
+// Appends an id, unless it is there.
+fn push_id(ids: &mut Vec<u16>, id: u16) -> Result<(), AllocError>
+    ensures { OnOk result (ids.new.items ≡ with_id ids.old.items id) }
+{
+    if has_id(ids, id) {
+        return Ok(());
+    }
+    ids.push(id)?;
+    Ok(())
+}
+
+// Whether an id is there.
+fn has_id(ids: &[u16], id: u16) -> bool
+    ensures { result ≡ list_any (λ held. held == id) ids.now }
+{
+    for held in ids {
+        if *held == id {
+            return true;
+        }
+    }
+    false
 }

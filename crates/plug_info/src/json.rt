@@ -13,11 +13,16 @@ ghost use Rattle.plug_psi.specs.InForce.{pat_of, pmt_of, services_in};
 ghost use Rattle.info_texts.specs.InfoJson;
 ghost use Rattle.info_texts.specs.InfoJson.{behind_comma};
 ghost use Rattle.plug_info.specs.InfoRule.{component_object, json_on, pid_objects, scene_of, service_object};
-ghost use Rattle.plug_info.specs.SdtInForce.{items_in};
+ghost use Rattle.plug_info.specs.SdtInForce.{items_in, sdt_of};
+ghost use Rattle.plug_info.specs.CaSystems.{program_descriptors, system_ids};
+ghost use Rattle.plug_info.specs.SdtStatus.{service_status};
 ghost use Rattle.plug_info.specs.Tracked.{Tracks};
 ghost use Rattle.plug_info.specs.UsesOf.{AreUses};
 
+use crate::ca_system::system_ids;
+use crate::cat_lines::systems_json;
 use crate::pid_uses::PidUses;
+use crate::service_status::{program_descriptors, service_status};
 use crate::service_texts::service_body;
 use crate::summary::{
     numbers_shown, pcr_pid_in, sdt_stream_id, service_packets, stream_numbers, uses_of,
@@ -28,8 +33,8 @@ use info_texts::json_texts::{
     component_head, component_tail, service_head, service_tail, stream_json,
 };
 use info_texts::{
-    PidNumbers, Scene, array, marks_json, number_or_null, portion_json, push_item, troubles_json,
-    widened,
+    PidNumbers, Scene, array, marks_json, number_or_null, portion_json, push_item,
+    service_marks_json, troubles_json, widened,
 };
 use plug_psi::number_and_pid;
 use plugin_notes::push_line;
@@ -61,10 +66,11 @@ fn whole_json(alloc: Global, tracker: &Tracker) -> Result<LineText, AllocError>
     };
     let stream = stream_json(alloc, &numbers)?;
     let sdt = number_or_null(alloc, widened(sdt_stream_id(tracker)))?;
+    let cas = systems_json(alloc, tracker)?;
     let services = services_json(alloc, tracker, &scene)?;
     let pids = pids_json(alloc, tracker, &scene)?;
     let text = format!(in alloc;
-        "{{\"stream\":{stream},\"sdt_transport_stream_id\":{sdt},\"services\":{services},\"pids\":{pids}}}"
+        "{{\"stream\":{stream},\"sdt_transport_stream_id\":{sdt},\"ca\":{cas},\"services\":{services},\"pids\":{pids}}}"
     )?;
     Ok(LineText::of(text))
 }
@@ -116,7 +122,26 @@ fn service_json(
     let packets = service_packets(tracker, pmt);
     let components = components_json(alloc, tracker, scene, pmt)?;
     let tail = service_tail(alloc, scene, pid, pcr_pid_in(pmt), packets, &components)?;
-    let text = format!(in alloc; "{head}{tail}")?;
+    let marks = service_marks(alloc, tracker, id, pmt)?;
+    let text = format!(in alloc; "{head}{marks}{tail}")?;
+    Ok(text)
+}
+
+// What else it has: its CA_system_ids, and what the SDT says of its access and its state.
+fn service_marks(
+    alloc: Global,
+    tracker: &Tracker,
+    id: u16,
+    pmt: Option<&Pmt>,
+) -> Result<String, AllocError>
+    ensures { IfOk result (λ text. (cells : List GivenCell) → Tracks tracker.now cells
+        → option_map pmt_held (option_copied pmt.entry) ≡ pmt_of id (live_packets cells)
+        → string_bytes text ≡ InfoJson.service_marks (system_ids (program_descriptors (pmt_of id (live_packets cells))))
+        (service_status (sdt_of (live_packets cells)) id)) }
+{
+    let ids = system_ids(alloc, program_descriptors(pmt))?;
+    let status = service_status(tracker.sdt.sdt.as_ref(), id);
+    let text = service_marks_json(alloc, &ids, status)?;
     Ok(text)
 }
 
@@ -168,9 +193,20 @@ fn component_json(
     let numbers = tracker.totals.numbers_on(component.pid);
     let users = users_of(&tracker.force, component.pid);
     let head = component_head(alloc, component.pid, component.stream_type)?;
-    let marks = marks_json(alloc, component.descriptors.as_slice())?;
+    let marks = component_marks(alloc, component)?;
     let tail = component_tail(alloc, scene, &numbers, users)?;
     let text = format!(in alloc; "{head}{marks}{tail}")?;
+    Ok(text)
+}
+
+// Its languages, codecs, audio_type and CA_system_ids.
+fn component_marks(alloc: Global, component: &Component) -> Result<String, AllocError>
+    ensures { IfOk result (λ text. string_bytes text
+        ≡ InfoJson.component_marks (component_item component.now).descriptors (system_ids (component_item component.now).descriptors)) }
+{
+    let descriptors = component.descriptors.as_slice();
+    let ids = system_ids(alloc, descriptors)?;
+    let text = marks_json(alloc, descriptors, &ids)?;
     Ok(text)
 }
 

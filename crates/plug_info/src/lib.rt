@@ -6,6 +6,7 @@
 
 mod ca_system;
 mod cat_in_force;
+mod cat_lines;
 mod clock_span;
 mod counters;
 mod extent;
@@ -19,6 +20,7 @@ mod other_tables;
 mod pid_uses;
 mod report;
 mod sdt_in_force;
+mod service_status;
 mod service_texts;
 mod spans;
 mod summary;

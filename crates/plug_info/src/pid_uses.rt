@@ -27,7 +27,7 @@ pub struct PidUses {
     /// The conditional access systems of PMTs.
     ecm: Vec<CaSystem>,
     /// Those of the CAT.
-    pub(crate) emm: Vec<CaSystem>,
+    emm: Vec<CaSystem>,
 }
 
 impl PidUses {
@@ -226,8 +226,8 @@ fn add_of_components(
     Ok(())
 }
 
-// The conditional access systems of a CAT.
-fn emm_systems(alloc: Global, cat: Option<&Cat>) -> Result<Vec<CaSystem>, AllocError>
+/// The conditional access systems of a CAT.
+pub fn emm_systems(alloc: Global, cat: Option<&Cat>) -> Result<Vec<CaSystem>, AllocError>
     ensures { IfOk result (λ systems. systems.items ≡ cat_systems (option_map cat_held (option_copied cat.entry))) }
 {
     let mut systems = Vec::new(alloc);

@@ -14,19 +14,26 @@ ghost use Rattle.plug_psi.specs.InForce.{pat_of, pmt_of, services_in};
 ghost use Rattle.plug_info.specs.InfoRule.{component_line, has_component, info_on, numbers_on, pcr_pid_in, pid_lines, scene_of, service_line, service_lines, service_packets, stream_id_in, stream_numbers, users_of};
 ghost use Rattle.info_texts.specs.InfoTexts.{pid_text, sdt_texts};
 ghost use Rattle.plug_info.specs.SdtInForce.{sdt_of};
+ghost use Rattle.plug_info.specs.CaSystems.{program_descriptors, system_ids};
+ghost use Rattle.plug_info.specs.SdtStatus.{service_status};
 ghost use Rattle.plug_info.specs.Tracked.{Tracks};
 ghost use Rattle.plug_info.specs.UsesOf.{AreUses};
 ghost use Rattle.info_texts.specs.InfoTexts;
 ghost use Rattle.plugin_notes.specs.PidPackets.{packets_on};
 
+use crate::ca_system::system_ids;
+use crate::cat_lines::push_systems;
 use crate::pid_uses::PidUses;
+use crate::service_status::{program_descriptors, service_status};
 use crate::service_texts::service_body;
 use crate::tracker::Tracker;
 use crate::users::{components_of, has_component, services_of, users_of};
 use info_texts::line_texts::{
     component_head, component_tail, service_head, service_tail, stream_text,
 };
-use info_texts::{PidNumbers, Scene, StreamNumbers, marks_text, portion_text, troubles_text};
+use info_texts::{
+    PidNumbers, Scene, StreamNumbers, marks_text, portion_text, service_marks_text, troubles_text,
+};
 use plug_psi::number_and_pid;
 use plugin_notes::push_line;
 use plugin_trait::{Line, LineText};
@@ -49,6 +56,7 @@ pub fn push_summary(lines: &mut Vec<Line>, cut: u64, tracker: &Tracker) -> Resul
     let text = stream_text(alloc, &numbers)?;
     push_line(lines, cut, text)?;
     push_sdt(lines, cut, numbers.stream_id, sdt_stream_id(tracker))?;
+    push_systems(lines, cut, tracker)?;
     push_services(lines, cut, tracker, &scene)?;
     push_pids(lines, cut, tracker, &scene)?;
     Ok(())
@@ -169,8 +177,27 @@ fn service_text(
     let packets = service_packets(tracker, pmt);
     let head = service_head(alloc, id, body)?;
     let tail = service_tail(alloc, scene, pid, pcr_pid_in(pmt), packets)?;
-    let text = format!(in alloc; "{head}{tail}")?;
+    let marks = service_marks(alloc, tracker, id, pmt)?;
+    let text = format!(in alloc; "{head}{tail}{marks}")?;
     Ok(LineText::of(text))
+}
+
+// What else its line has: its CA_system_ids, and what the SDT says of its access and its state.
+fn service_marks(
+    alloc: Global,
+    tracker: &Tracker,
+    id: u16,
+    pmt: Option<&Pmt>,
+) -> Result<String, AllocError>
+    ensures { IfOk result (λ text. (cells : List GivenCell) → Tracks tracker.now cells
+        → option_map pmt_held (option_copied pmt.entry) ≡ pmt_of id (live_packets cells)
+        → string_bytes text ≡ InfoTexts.service_marks (system_ids (program_descriptors (pmt_of id (live_packets cells))))
+        (service_status (sdt_of (live_packets cells)) id)) }
+{
+    let ids = system_ids(alloc, program_descriptors(pmt))?;
+    let status = service_status(tracker.sdt.sdt.as_ref(), id);
+    let text = service_marks_text(alloc, &ids, status)?;
+    Ok(text)
 }
 
 /// The PCR_PID of a PMT.
@@ -253,10 +280,21 @@ fn component_text(
     let numbers = tracker.totals.numbers_on(component.pid);
     let users = users_of(&tracker.force, component.pid);
     let head = component_head(alloc, component.pid, service, component.stream_type)?;
-    let marks = marks_text(alloc, component.descriptors.as_slice())?;
+    let marks = component_marks(alloc, component)?;
     let tail = component_tail(alloc, scene, &numbers, users)?;
     let text = format!(in alloc; "{head}{marks}{tail}")?;
     Ok(LineText::of(text))
+}
+
+// Its codecs, languages, audio_type and CA_system_ids.
+fn component_marks(alloc: Global, component: &Component) -> Result<String, AllocError>
+    ensures { IfOk result (λ text. string_bytes text
+        ≡ InfoTexts.marks_text (component_item component.now).descriptors (system_ids (component_item component.now).descriptors)) }
+{
+    let descriptors = component.descriptors.as_slice();
+    let ids = system_ids(alloc, descriptors)?;
+    let text = marks_text(alloc, descriptors, &ids)?;
+    Ok(text)
 }
 
 // Appends the lines of the PIDs that have packets and are not a component's.

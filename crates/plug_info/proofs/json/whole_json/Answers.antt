@@ -13,6 +13,6 @@ returns c = λ cells w.
     ap (λ (n : StreamNumbers). let s : Scene = record { whole = n.packets; extent = n.extent; rate = n.rate } in s) numbers in
     c.of.ensures
     ∙ (c.in_ok-text.ensures.ok
-    ∙ whole_is _ _ _ _ _ _ _ _ (c.in_ok-stream.ensures ∙ ap stream_json numbers)
+    ∙ whole_is _ _ _ _ _ _ _ _ _ _ (c.in_ok-stream.ensures ∙ ap stream_json numbers)
     (c.in_ok-sdt.ensures ∙ ap number_or_null (c.widened.ensures ∙ c.sdt_stream_id.ensures cells w))
-    (c.in_ok-services.ensures cells w scene_is) (c.in_ok-pids.ensures cells w scene_is))
+    (c.in_ok-cas.ensures cells w) (c.in_ok-services.ensures cells w scene_is) (c.in_ok-pids.ensures cells w scene_is))

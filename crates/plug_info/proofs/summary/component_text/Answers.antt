@@ -8,5 +8,5 @@ pub returns : goal.returns
 returns c = λ cells w s.
     c.of.ensures
     ∙ (c.in_ok-text.ensures.ok
-    ∙ three_parts _ _ _ _ _ _ c.in_ok-head.ensures (c.in_ok-marks.ensures ∙ ap marks_text c.as_slice.ensures)
+    ∙ three_parts _ _ _ _ _ _ c.in_ok-head.ensures c.in_ok-marks.ensures
     (c.in_ok-tail.ensures ∙ tail_is _ _ _ _ _ _ s (c.numbers_on-numbers.ensures cells w.counted) (c.users_of-users.ensures (live_packets cells) w.fed)))
