@@ -1,7 +1,7 @@
 -- From the whole call to what its status says.
 use Rattle.std.proofs.Math.Nat.{min-eq_left}
 use Rattle.std.proofs.lemmas.Bool.Decides.{nat_tests}
-use Rattle.std.proofs.Common.{◌≡◌, ℕ, zero, suc, ◌+◌, append_assoc, List, [], ◌∷◌, ◌++◌, length, take, Bool, true, false, Option, None, Some, refl, ap, sym, ◌∙◌, subst, arith, inl, inr}
+use Rattle.std.proofs.Common.{◌≡◌, ℕ, zero, suc, ◌+◌, append_assoc, List, [], ◌∷◌, ◌++◌, length, map, take, Bool, true, false, Option, None, Some, refl, ap, sym, ◌∙◌, subst, arith, inl, inr}
 use Rattle.std.specs.Prelude.{◌⊎◌, ◌&&◌, ◌||◌, ◌<◌, ◌≤◌, ◌-◌, ◌^◌, min, nat_lt, unwrap_or, IsSome}
 use Rattle.std.specs.List.{list_all}
 use Rattle.ts_outside.specs.Count.{HasCause, raised}
@@ -9,6 +9,7 @@ use Rattle.ts_outside.proofs.Views.{HasCause-raised}
 use Rattle.ts_outside.specs.Source.{SourceView}
 use Rattle.ts_outside.specs.Told.{before, grown}
 use Rattle.ts_outside.specs.Desk.{DeskView, file_of, content, asked_well}
+use Rattle.ts_outside.specs.declared.requests.Asked.{Asked}
 use Rattle.ts_outside.specs.declared.requests.Purpose.TheVariants as purpose
 use Rattle.ts_outside.specs.Saying.{Says, ReportsText}
 use Rattle.ts_outside.specs.Entries.{outputs_with}
@@ -27,7 +28,7 @@ use Rattle.switch_top.specs.declared.status.SwitchStatus.TheVariants as status
 use Rattle.switch_top.specs.PlayNames.{PlayName, numbered, rows_of}
 use Rattle.switch_top.specs.Lines.{play_line, switch_end_line}
 use Rattle.switch_top.specs.Switched.{PlayList, lists_of, is_plain}
-use Rattle.switch_top.specs.PlaysBehind.{names_of, cells_of, lines_of, sources_of, with_inputs, LastRead}
+use Rattle.switch_top.specs.PlaysBehind.{Behind, names_of, cells_of, lines_of, asked_of, all_asked, sources_of, with_inputs, AsksNext, LastRead}
 use Rattle.switch_top.specs.SwitchEnds.{SwitchesPlan, no_output, out_of_memory, wanted, ran, SwitchRan, IsPart, output_name, opened_as}
 use Rattle.switch_top.specs.SwitchCall.{CallsSwitch, at_words, no_room, at_plan}
 use Rattle.switch_top.specs.SwitchPlans.{plays_of}
@@ -50,18 +51,66 @@ module _ (buffer : ℕ) (names : List PlayName) (output : Option (List ℕ)) (st
   content-is : content start r.name ≡ Some (file_of files r.name)
   content-is = ap (λ (o : Option (List (List ℕ × List ℕ))). content (record start { files = o }) r.name) told
 
-  gives-read : (ok : Bool) → LastRead buffer start r.behind r.name r.n r.end r.later r.ahead ok r.sources → r.end ≡ Input how.ReadFault
-      → (r.n ≡ 0)
-      ⊎ ((read : List ℕ) × (left : List ℕ) × (before : List SourceView) × (made : SourceView) × (more : List SourceView)
+  asked-before : (behind : List Behind) → all_asked behind ≡ map (asked_of true) (names_of behind)
+  asked-before [] = refl
+  asked-before (b ∷ bs) = ap (λ l. asked_of true b.play ∷ l) (asked-before bs)
+
+  as-many : (behind : List Behind) → length (sources_of behind) ≡ length (names_of behind)
+  as-many [] = refl
+  as-many (b ∷ bs) = ap suc (as-many bs)
+
+  asked-is : (ok : Bool) (ahead : List Asked)
+      → new.asked ≡ grown start.asked (all_asked r.behind ++ asked_of ok (record { input = r.input; name = r.name }) ∷ ahead)
+      → new.asked ≡ grown start.asked (map (asked_of true) (names_of r.behind) ++ asked_of ok (record { input = r.input; name = r.name }) ∷ ahead)
+  asked-is ok ahead is = is ∙ ap (λ l. grown start.asked (l ++ asked_of ok (record { input = r.input; name = r.name }) ∷ ahead)) (asked-before r.behind)
+
+  few-asked : (later : List PlayName) (ahead : List Asked) (more : List SourceView) → AsksNext start later ahead more → length ahead ≤ 1
+  few-asked later ahead more (inl a) = (let l = ap (λ (x : List Asked). length x) a.1 in omega (arith, l))
+  few-asked later ahead more (inr a) = elim a.3 [
+    | inl n ↦ (let l = ap (λ (x : List Asked). length x) n.0 in omega (arith, l))
+    | inr n ↦ (let l = ap (λ (x : List Asked). length x) n.1 in omega (arith, l))
+  ]
+
+  -- what was asked for and closed where the last play was opened or not
+  gives-read : (ok : Bool) (ahead : List Asked) → LastRead buffer start r.behind r.name r.n r.end r.later ahead ok r.sources → r.end ≡ Input how.ReadFault
+      → new.asked ≡ grown start.asked (all_asked r.behind ++ asked_of ok (record { input = r.input; name = r.name }) ∷ ahead)
+      → ((sources : List SourceView) × (r.n ≡ 0) × (length sources ≡ length (names_of r.behind))
+      × (new.asked ≡ grown start.asked (map (asked_of true) (names_of r.behind) ++ asked_of false (record { input = r.input; name = r.name }) ∷ []))
+      × (new.closed_in ≡ with_inputs start.closed_in sources))
+      ⊎ ((read : List ℕ) × (left : List ℕ) × (before : List SourceView) × (made : SourceView) × (more : List SourceView) × (later : List Asked)
       × (file_of files r.name ≡ read ++ left) × (r.n ≡ length (list_at_fault no_stuffing read).cells) × (made.left ≡ Some left) × (0 < made.faults)
-      × (length more ≤ 1) × (new.closed_in ≡ with_inputs start.closed_in (before ++ made ∷ more)))
-  gives-read false l e = inl l.1
-  gives-read true l e =
+      × (length before ≡ length (names_of r.behind)) × (length more ≤ 1) × (length later ≤ 1)
+      × (new.asked ≡ grown start.asked (map (asked_of true) (names_of r.behind) ++ asked_of true (record { input = r.input; name = r.name }) ∷ later))
+      × (new.closed_in ≡ with_inputs start.closed_in (before ++ made ∷ more)))
+  gives-read false ahead l e is = inl (
+    r.sources,
+    l.1,
+    ap (λ (s : List SourceView). length s) l.0 ∙ as-many r.behind,
+    asked-is false [] (is ∙ ap (λ (a : List Asked). grown start.asked (all_asked r.behind ++ asked_of false (record { input = r.input; name = r.name }) ∷ a)) l.3),
+    r.closed_in,
+  )
+  gives-read true ahead l e is =
       let f = l.4.at_fault (ap cause_of e) in
       let one : raised 0 ≡ l.0.faults = ap (λ (s : SourceView). s.faults) f.failed in
       let whole : Some (file_of files r.name) ≡ before l.4.read l.0.left = sym content-is ∙ ap (λ (s : SourceView). s.left) f.failed in
       let b = before-is l.4.read (file_of files r.name) l.0.left whole in
-      inr (l.4.read, b.0, sources_of r.behind, l.0, l.1, b.2, f.cut_is, b.1, subst (λ n. 0 < n) one (omega arith), one-more start r.later r.ahead l.1 l.3, r.closed_in ∙ ap (with_inputs start.closed_in) l.2)
+      inr (
+        l.4.read,
+        b.0,
+        sources_of r.behind,
+        l.0,
+        l.1,
+        ahead,
+        b.2,
+        f.cut_is,
+        b.1,
+        subst (λ n. 0 < n) one (omega arith),
+        as-many r.behind,
+        one-more start r.later ahead l.1 l.3,
+        few-asked r.later ahead l.1 l.3,
+        asked-is true ahead is,
+        r.closed_in ∙ ap (with_inputs start.closed_in) l.2,
+      )
 
   abbrev text : List ℕ
   text = lines_of r.behind ++ (play_line r.input r.n r.end ++ switch_end_line r.input r.end (length (cells_of r.behind) + r.n))
@@ -107,7 +156,7 @@ ran-ends buffer names None old new answer files told r failed says = (
     part_is = subst (λ z. IsPart (play_of z).cells r.n r.end r.part) (last-is buffer names None old new answer r files told) r.part_is;
     written_is = written-is buffer names None old new answer r files told;
     reported_is = subst (ReportsText old new) (sym (text-is buffer names None old new answer r files told)) (said buffer names None old new answer r files told failed says);
-    read = gives-read buffer names None old new answer r files told r.ok r.last_read;
+    read = λ e. gives-read buffer names None old new answer r files told r.ok r.ahead r.last_read e r.asked;
   },
   refl,
 )
@@ -125,7 +174,7 @@ ran-ends buffer names (Some name) old new answer files told r failed says = (
     part_is = subst (λ z. IsPart (play_of z).cells r.n r.end r.part) (last-is buffer names (Some name) (asked_well old purpose.Output name) new answer r files told) r.part_is;
     written_is = written-is buffer names (Some name) (asked_well old purpose.Output name) new answer r files told;
     reported_is = subst (ReportsText old new) (sym (text-is buffer names (Some name) (asked_well old purpose.Output name) new answer r files told)) (said buffer names (Some name) (asked_well old purpose.Output name) new answer r files told failed says);
-    read = gives-read buffer names (Some name) (asked_well old purpose.Output name) new answer r files told r.ok r.last_read;
+    read = λ e. gives-read buffer names (Some name) (asked_well old purpose.Output name) new answer r files told r.ok r.ahead r.last_read e r.asked;
   },
   refl,
 )

@@ -1,5 +1,5 @@
 -- What a call of `tsswitch` does, in terms of the switched list. This project's own rule.
-use Rattle.std.specs.Prelude.{◌≡◌, ◌⊎◌, ℕ, ◌+◌, ◌<◌, ◌≤◌, List, [], ◌∷◌, ◌++◌, length, take, codes, Bool, true, false, Option, Some}
+use Rattle.std.specs.Prelude.{◌≡◌, ◌⊎◌, ℕ, ◌+◌, ◌<◌, ◌≤◌, List, [], ◌∷◌, ◌++◌, length, map, take, codes, Bool, true, false, Option, Some}
 use Rattle.std.specs.List.{flat_map, list_all}
 use Rattle.ts_packet.specs.declared.cell.Cell.{Cell}
 use Rattle.ts_outside.specs.Told.{grown}
@@ -89,14 +89,19 @@ abbrev pub report_to : List PlayList → ℕ → ℕ → PlayEnd → List ℕ
 report_to behind input n end =
     flat_map line_of behind ++ (play_line input n end ++ switch_end_line input end (length (packets_of behind) + n))
 
--- a play that ends by a read fault could not be opened, and gave nothing; or it gave the packets of what was read before the
--- read that failed, which is its file without the bytes that its source had still to come when it was closed
-abbrev pub GivesRead : Option (List ℕ) → List ℕ → DeskView → DeskView → ℕ → Type 0
-GivesRead output file old new n =
-    (n ≡ 0)
-    ⊎ ((read : List ℕ) × (left : List ℕ) × (before : List SourceView) × (made : SourceView) × (more : List SourceView)
+-- a play that ends by a read fault could not be opened: it was asked for last, and then it gave nothing, and only the plays
+-- before it had sources to close. Or it was opened, and gave the packets of what was read before the read that failed, which is
+-- its file without the bytes that its source had still to come when it was closed; after it one play was asked for at most
+abbrev pub GivesRead : Option (List ℕ) → List ℕ → DeskView → DeskView → List PlayName → PlayName → ℕ → Type 0
+GivesRead output file old new behind play n =
+    ((sources : List SourceView) × (n ≡ 0) × (length sources ≡ length behind)
+    × (new.asked ≡ grown (opened_as old output).asked (map (asked_of true) behind ++ asked_of false play ∷ []))
+    × (new.closed_in ≡ with_inputs (opened_as old output).closed_in sources))
+    ⊎ ((read : List ℕ) × (left : List ℕ) × (before : List SourceView) × (made : SourceView) × (more : List SourceView) × (ahead : List Asked)
     × (file ≡ read ++ left) × (n ≡ length (list_at_fault no_stuffing read).cells) × (made.left ≡ Some left) × (0 < made.faults)
-    × (length more ≤ 1) × (new.closed_in ≡ with_inputs (opened_as old output).closed_in (before ++ made ∷ more)))
+    × (length before ≡ length behind) × (length more ≤ 1) × (length ahead ≤ 1)
+    × (new.asked ≡ grown (opened_as old output).asked (map (asked_of true) behind ++ asked_of true play ∷ ahead))
+    × (new.closed_in ≡ with_inputs (opened_as old output).closed_in (before ++ made ∷ more)))
 
 -- these plays end plainly, and the one after them is the last that was played: it gave so many packets, and ended so. These
 -- packets are written, after a failed write also a part of the next one; and that is reported, or a report failed after a
@@ -116,7 +121,7 @@ pub record EndsIn (files : List (List ℕ × List ℕ)) (names : List PlayName) 
   pub written_is : new.outputs ≡ outputs_with output old.outputs
       (written (packets_of (lists_of files behind)) ++ (written (take n (play_of (file_of files play.name)).cells) ++ part))
   pub reported_is : ReportsText old new (report_to (lists_of files behind) play.input n end)
-  pub read : end ≡ Input how.ReadFault → GivesRead output (file_of files play.name) old new n
+  pub read : end ≡ Input how.ReadFault → GivesRead output (file_of files play.name) old new behind play n
 
 -- an output was wanted and could not be opened; that is all that is reported
 abbrev pub MissesOutput : Option (List ℕ) → DeskView → DeskView → Type 0
