@@ -86,13 +86,13 @@ fn item_rows(parent: &str, name: &str) -> &'static [Field] {
 }
 
 // The rows of an element, in two parts.
-fn rows_of(place: Place<'_>) -> [&'static [Field]; 2] {
+fn rows_of(place: Place<'_>) -> (&'static [Field], &'static [Field]) {
     if let Some(table) = table_named(place.name) {
-        return [table.common, table.head];
+        return (table.common, table.head);
     }
     match layout_named(place.name) {
-        Some(page) => [page.head, &[]],
-        None => [item_rows(place.parent, place.name), &[]],
+        Some(page) => (page.head, &[]),
+        None => (item_rows(place.parent, place.name), &[]),
     }
 }
 
@@ -116,29 +116,30 @@ fn put_table_keys(text: &mut String, table: &TableLayout) -> Result<(), AllocErr
     Ok(())
 }
 
-/// Puts a line with the keys that an element may have; nothing where its pages do not tell them.
-pub(crate) fn put_known_keys(text: &mut String, place: Place<'_>) -> Result<(), AllocError> {
-    let before = text.len();
-    if let Some(table) = table_named(place.name) {
-        text.push_str("known here:")?;
-        put_table_keys(text, table)?;
-    }
-    for rows in rows_of(place) {
-        for row in rows {
-            if !row.name.is_empty() {
-                text.push_str(if text.len() == before {
-                    "known here: "
-                } else {
-                    " "
-                })?;
-                text.push_str(row.name)?;
-            }
+// Puts the names of rows.
+fn put_names(text: &mut String, rows: &[Field]) -> Result<(), AllocError> {
+    for row in rows {
+        if !row.name.is_empty() {
+            write!(text, " {}", row.name)?;
         }
     }
-    if text.len() > before {
-        text.push('\n')?;
-    }
     Ok(())
+}
+
+/// Puts a line with the keys that an element may have; nothing where its pages do not tell them.
+pub(crate) fn put_known_keys(text: &mut String, place: Place<'_>) -> Result<(), AllocError> {
+    let table = table_named(place.name);
+    let (first, later) = rows_of(place);
+    if table.is_none() && first.is_empty() {
+        return Ok(());
+    }
+    text.push_str("known here:")?;
+    if let Some(table) = table {
+        put_table_keys(text, table)?;
+    }
+    put_names(text, first)?;
+    put_names(text, later)?;
+    text.push('\n')
 }
 
 // Whether descriptors may stand in the element in which this one is.
@@ -222,16 +223,29 @@ fn put_kind(text: &mut String, row: &Field) -> Result<(), AllocError> {
     }
 }
 
-/// Puts a line with the form of the value of a key; nothing where the pages do not tell it.
-pub(crate) fn put_form(text: &mut String, place: Place<'_>, key: &str) -> Result<(), AllocError> {
-    for rows in rows_of(place) {
-        for row in rows {
-            if row.name == key && !key.is_empty() {
-                write!(text, "{key}: ")?;
-                put_kind(text, row)?;
-                return text.push('\n');
-            }
+// The row of this name.
+fn row_named<'a>(rows: &'a [Field], name: &str) -> Option<&'a Field> {
+    for row in rows {
+        if row.name == name {
+            return Some(row);
         }
     }
-    Ok(())
+    None
+}
+
+/// Puts a line with the form of the value of a key; nothing where the pages do not tell it.
+pub(crate) fn put_form(text: &mut String, place: Place<'_>, key: &str) -> Result<(), AllocError> {
+    let (first, later) = rows_of(place);
+    let found = match row_named(first, key) {
+        Some(row) => Some(row),
+        None => row_named(later, key),
+    };
+    match found {
+        Some(row) if !key.is_empty() => {
+            write!(text, "{key}: ")?;
+            put_kind(text, row)?;
+            text.push('\n')
+        }
+        _ => Ok(()),
+    }
 }
