@@ -7,12 +7,12 @@ ghost use Rattle.tsp_top.specs.TspCall.{CallsPlan, CallsTsp};
 
 use crate::beginning::begin_plan;
 use crate::call_end::CallEnd;
+use crate::call_notes::PluginNotes;
 use crate::driver::Driver;
 use crate::finishing::finish;
 use crate::in_threads::run_in_threads;
 use crate::one_thread::run_in_one_thread;
 use crate::opened_call::OpenedCall;
-use crate::plugin_notes::PluginNotes;
 use crate::status::Status;
 use crate::words::refuse_words;
 use chain_args::{Plan, WordsFault, plan};

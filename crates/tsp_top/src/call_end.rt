@@ -1,6 +1,6 @@
 //! What a call came to.
 
-use crate::plugin_notes::PluginNotes;
+use crate::call_notes::PluginNotes;
 use crate::status::Status;
 use chain_args::Plan;
 

@@ -8,8 +8,8 @@ ghost use Rattle.tsp_top.specs.PlannedChain.{named_rules};
 ghost use Rattle.tsp_top.specs.Ran.{EndsRun, RanOpened};
 ghost use Rattle.tsp_top.specs.Reported.{ReachesCut};
 
+use crate::call_notes::PluginNotes;
 use crate::opening::{close_input, close_output};
-use crate::plugin_notes::PluginNotes;
 use crate::report::report_run;
 use crate::status::Status;
 use chain_args::Plan;

@@ -5,6 +5,7 @@
 mod beginning;
 mod call;
 mod call_end;
+mod call_notes;
 mod driver;
 mod end_line;
 mod finishing;
@@ -13,7 +14,6 @@ mod one_thread;
 mod opened_call;
 mod opening;
 mod planning;
-mod plugin_notes;
 mod ready;
 mod report;
 mod reporting;
@@ -25,9 +25,9 @@ mod words;
 
 pub use call::{explained_call, serial_call, threaded_call, tsp_call};
 pub use call_end::CallEnd;
+pub use call_notes::{IdlePlugin, NotedChange, PluginNotes};
 pub use chain_args::{WordsFault, WordsRule};
 pub use plug_set::{ChangedOn, Idle};
-pub use plugin_notes::{IdlePlugin, NotedChange, PluginNotes};
 pub use status::Status;
 pub use steady::steady_call;
 pub use stream_law::{completeness, headline, memory_first, sizes_change_nothing};
