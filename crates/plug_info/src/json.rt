@@ -140,7 +140,7 @@ fn service_marks(
         (service_status (sdt_of (live_packets cells)) id)) }
 {
     let ids = system_ids(alloc, program_descriptors(pmt))?;
-    let status = service_status(tracker.sdt.sdt.as_ref(), id);
+    let status = service_status(tracker.sdt_in_force(), id);
     let text = service_marks_json(alloc, &ids, status)?;
     Ok(text)
 }

@@ -1,6 +1,4 @@
 use Rattle.std.proofs.Common.{ap, ap₂, ◌∙◌}
-use Rattle.std.specs.Prelude.{option_map}
-use Rattle.ts_si.specs.SiTables.{sdt_held}
 use Rattle.info_texts.specs.InfoTexts.{service_marks}
 use Rattle.plug_info.specs.CaSystems.{program_descriptors, system_ids}
 use Rattle.plug_info.specs.SdtStatus.{service_status}
@@ -11,4 +9,4 @@ returns c = λ cells w p.
     c.in_ok-text.ensures
     ∙ ap₂ service_marks
     (c.deref.ensures.value ∙ (c.in_ok-ids.ensures ∙ ap system_ids (c.program_descriptors.ensures ∙ ap program_descriptors p)))
-    (c.service_status-status.ensures ∙ ap (λ t. service_status t c.args.id) (ap (option_map sdt_held) c.as_ref.ensures.value ∙ w.has_sdt.kept))
+    (c.service_status-status.ensures ∙ ap (λ t. service_status t c.args.id) (c.sdt_in_force.ensures cells w))
