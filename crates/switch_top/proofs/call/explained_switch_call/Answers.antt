@@ -1,4 +1,4 @@
-use Rattle.std.proofs.Common.{map, Err, refl, subst}
+use Rattle.std.proofs.Common.{map, Err, rules, subst}
 use Rattle.std.specs.String.{string_bytes}
 use Rattle.switch_args.specs.declared.words.WordsFault.{WordsFault}
 use Rattle.switch_args.specs.Readings.{ReadsWords, given_of_settings}
@@ -12,5 +12,5 @@ returns-in-Ok-clause-call g c =
 
 pub returns-in-Err-At-clause-call : goal.returns-in-Err-At-clause-call
 returns-in-Err-At-clause-call g c =
-    at_words c.in-Err-At.word c.say.result refl
+    at_words c.in-Err-At.word c.say.result (search rules)
     (subst (λ (fault : WordsFault). ReadsWords (map string_bytes c.args.words.now) (Err fault)) c.in-Err-At.field-0-is c.in-Err-At.ensures.read) c.say.ensures
