@@ -139,7 +139,7 @@ component-row : component_text (record { whole = 8; extent = 8; rate = None }) 2
 unfolding digits rounded
 component-row = refl
 
-pid-row : pid_text 17 (codes "SDT") (portion_text (record { whole = 8; extent = 8; rate = None }) 1) (record { packets = 1; scrambled = 0; faults = 0 })
+pid-row : pid_text 17 (codes "SDT, BAT") (portion_text (record { whole = 8; extent = 8; rate = None }) 1) (record { packets = 1; scrambled = 0; faults = 0 })
     ≡ codes "pid 17 (SDT, BAT) packets 1 share 12.50% bitrate none scrambled 0 faults 0"
 unfolding digits rounded
 pid-row = refl
