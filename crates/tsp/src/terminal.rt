@@ -7,7 +7,7 @@ use std::io::IsTerminal;
 fn writes_stdout(alloc: Global, words: &[String]) -> bool {
     match plan(alloc, words) {
         Ok(plan) => {
-            match plan.output {
+            match &plan.output {
                 OutputConf::File(name) => name.as_str().is_empty(),
                 OutputConf::Drop => false,
             }

@@ -7,7 +7,7 @@ use switch_args::{SwitchOutput, read_words};
 fn writes_stdout(alloc: Global, words: &[String]) -> bool {
     match read_words(alloc, words) {
         Ok(settings) => {
-            match settings.output {
+            match &settings.output {
                 SwitchOutput::File(name) => name.as_str().is_empty(),
                 SwitchOutput::Drop => false,
             }
