@@ -11,9 +11,9 @@ pub(crate) struct JsonRow {
     pub(crate) text: &'static str,
 }
 
-/// The rows.
-pub(crate) fn json_rows() -> &'static [JsonRow] {
-    static ROWS: [JsonRow; 27] = [
+// Keys at several places.
+fn place_rows() -> &'static [JsonRow] {
+    static ROWS: [JsonRow; 3] = [
         JsonRow {
             about: "a key of the child 0 of the child 2",
             path: &[2, 0],
@@ -35,6 +35,13 @@ pub(crate) fn json_rows() -> &'static [JsonRow] {
             kind: JsonKind::UnknownKey,
             text: "",
         },
+    ];
+    &ROWS
+}
+
+// Keys of which not each character is shown as it is.
+fn shown_key_rows() -> &'static [JsonRow] {
+    static ROWS: [JsonRow; 3] = [
         JsonRow {
             about: "a slash, a tilde, and a slash that seems escaped",
             path: &[1, 2, 3],
@@ -56,6 +63,13 @@ pub(crate) fn json_rows() -> &'static [JsonRow] {
             kind: JsonKind::UnknownKey,
             text: "",
         },
+    ];
+    &ROWS
+}
+
+// Names that are not known.
+fn name_rows() -> &'static [JsonRow] {
+    static ROWS: [JsonRow; 2] = [
         JsonRow {
             about: "a name that may not stand there",
             path: &[0, 1],
@@ -70,6 +84,13 @@ pub(crate) fn json_rows() -> &'static [JsonRow] {
             kind: JsonKind::UnknownKey,
             text: "",
         },
+    ];
+    &ROWS
+}
+
+// Elements that are wrong as a whole.
+fn element_rows() -> &'static [JsonRow] {
+    static ROWS: [JsonRow; 3] = [
         JsonRow {
             about: "an element that is a number",
             path: &[0, 1],
@@ -91,6 +112,13 @@ pub(crate) fn json_rows() -> &'static [JsonRow] {
             kind: JsonKind::WrongKind,
             text: "",
         },
+    ];
+    &ROWS
+}
+
+// Unknown keys of tables and of their items.
+fn table_key_rows() -> &'static [JsonRow] {
+    static ROWS: [JsonRow; 4] = [
         JsonRow {
             about: "an unknown key of a PAT",
             path: &[0],
@@ -119,6 +147,13 @@ pub(crate) fn json_rows() -> &'static [JsonRow] {
             kind: JsonKind::UnknownKey,
             text: "{\"#name\":\"tsduck\",\"#nodes\":[{\"#name\":\"SDT\",\"#nodes\":[{\"#name\":\"service\",\"id\":1}]}]}",
         },
+    ];
+    &ROWS
+}
+
+// Unknown keys of descriptors, and where none are listed.
+fn descriptor_key_rows() -> &'static [JsonRow] {
+    static ROWS: [JsonRow; 3] = [
         JsonRow {
             about: "an unknown key of a descriptor",
             path: &[0, 0],
@@ -140,6 +175,13 @@ pub(crate) fn json_rows() -> &'static [JsonRow] {
             kind: JsonKind::UnknownKey,
             text: "{\"#name\":\"tsduck\",\"#nodes\":[{\"#name\":\"generic_short_table\",\"id\":1}]}",
         },
+    ];
+    &ROWS
+}
+
+// Unknown tables, and elements in a table that has no descriptors.
+fn table_name_rows() -> &'static [JsonRow] {
+    static ROWS: [JsonRow; 3] = [
         JsonRow {
             about: "an unknown table",
             path: &[1],
@@ -161,6 +203,13 @@ pub(crate) fn json_rows() -> &'static [JsonRow] {
             kind: JsonKind::UnknownKey,
             text: "{\"#name\":\"tsduck\",\"#nodes\":[{\"#name\":\"PAT\",\"#nodes\":[{\"#name\":\"service\",\"#nodes\":[{\"#name\":\"service\"}]}]}]}",
         },
+    ];
+    &ROWS
+}
+
+// Unknown elements where a descriptor is allowed.
+fn descriptor_name_rows() -> &'static [JsonRow] {
+    static ROWS: [JsonRow; 2] = [
         JsonRow {
             about: "an unknown element of a NIT",
             path: &[0, 0],
@@ -175,6 +224,13 @@ pub(crate) fn json_rows() -> &'static [JsonRow] {
             kind: JsonKind::UnknownKey,
             text: "{\"#name\":\"tsduck\",\"#nodes\":[{\"#name\":\"SDT\",\"#nodes\":[{\"#name\":\"service\",\"#nodes\":[{\"#name\":\"name\"}]}]}]}",
         },
+    ];
+    &ROWS
+}
+
+// Values of another kind.
+fn value_rows() -> &'static [JsonRow] {
+    static ROWS: [JsonRow; 4] = [
         JsonRow {
             about: "a running_status in words",
             path: &[0, 0],
@@ -205,4 +261,19 @@ pub(crate) fn json_rows() -> &'static [JsonRow] {
         },
     ];
     &ROWS
+}
+
+/// The tables of rows, each about one topic.
+pub(crate) fn json_tables() -> [&'static [JsonRow]; 9] {
+    [
+        place_rows(),
+        shown_key_rows(),
+        name_rows(),
+        element_rows(),
+        table_key_rows(),
+        descriptor_key_rows(),
+        table_name_rows(),
+        descriptor_name_rows(),
+        value_rows(),
+    ]
 }

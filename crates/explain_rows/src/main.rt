@@ -13,9 +13,9 @@ mod word_rows;
 use anyhow::Result;
 use explain_tables::{compile_text, decompile_text};
 use explain_words::{HelpTable, fault_text, general_options, tsp_segments, words_text};
-use json_rows::{JsonRow, json_rows};
+use json_rows::{JsonRow, json_tables};
 use place_rows::{PlaceRow, USAGE, may_stand, place_rows};
-use section_rows::section_rows;
+use section_rows::{SectionRow, section_tables};
 use tabcomp_core::CompileFault;
 use table_rows::table_rows;
 use text_rows::text_rows;
@@ -74,11 +74,30 @@ fn show_text(rt: &HostRuntime, about: &str, fault: &CompileFault, file: &[u8]) -
     Ok(())
 }
 
-/// Prints the rows of texts.
-fn show_texts(rt: &HostRuntime) -> Result<()> {
-    for row in json_rows() {
+/// Prints a table of rows of JSON values.
+fn show_json(rt: &HostRuntime, rows: &[JsonRow]) -> Result<()> {
+    for row in rows {
         let fault = json_fault(rt, row)?;
         show_text(rt, row.about, &fault, row.text.as_bytes())?;
+    }
+    Ok(())
+}
+
+/// Prints a table of rows of sections.
+fn show_sections(rt: &HostRuntime, rows: &[SectionRow]) -> Result<()> {
+    for row in rows {
+        let file = (!row.file.is_empty()).then_some(row.file);
+        let json = "it begins as a JSON text does\n";
+        let text = decompile_text(rt.alloc(), row.fault, file, json)?;
+        print!(rt; "{}:\n{text}", row.about)?;
+    }
+    Ok(())
+}
+
+/// Prints the rows of texts.
+fn show_texts(rt: &HostRuntime) -> Result<()> {
+    for rows in json_tables() {
+        show_json(rt, rows)?;
     }
     for row in table_rows() {
         let fault = CompileFault::TooLarge {
@@ -102,11 +121,8 @@ fn main(rt: HostRuntime) -> Result<()> {
         show_place(&rt, row)?;
     }
     show_texts(&rt)?;
-    for row in section_rows() {
-        let file = (!row.file.is_empty()).then_some(row.file);
-        let json = "it begins as a JSON text does\n";
-        let text = decompile_text(rt.alloc(), row.fault, file, json)?;
-        print!(rt; "{}:\n{text}", row.about)?;
+    for rows in section_tables() {
+        show_sections(&rt, rows)?;
     }
     Ok(())
 }

@@ -10,9 +10,9 @@ pub(crate) struct SectionRow {
     pub(crate) file: &'static [u8],
 }
 
-/// The rows.
-pub(crate) fn section_rows() -> &'static [SectionRow] {
-    static ROWS: [SectionRow; 12] = [
+// Sections that are damaged, or cut short.
+fn damaged_rows() -> &'static [SectionRow] {
+    static ROWS: [SectionRow; 2] = [
         SectionRow {
             about: "a CRC with zeros in front",
             fault: DecompileFault::Section {
@@ -35,6 +35,13 @@ pub(crate) fn section_rows() -> &'static [SectionRow] {
             },
             file: b"",
         },
+    ];
+    &ROWS
+}
+
+// Bytes that have not the form of a section.
+fn form_rows() -> &'static [SectionRow] {
+    static ROWS: [SectionRow; 3] = [
         SectionRow {
             about: "stuffing",
             fault: DecompileFault::Section {
@@ -65,6 +72,13 @@ pub(crate) fn section_rows() -> &'static [SectionRow] {
             },
             file: b"",
         },
+    ];
+    &ROWS
+}
+
+// Numbers that do not fit.
+fn number_rows() -> &'static [SectionRow] {
+    static ROWS: [SectionRow; 3] = [
         SectionRow {
             about: "section 3 of 0 to 2",
             fault: DecompileFault::Section {
@@ -88,6 +102,13 @@ pub(crate) fn section_rows() -> &'static [SectionRow] {
             fault: DecompileFault::Sequence { offset: 16_777_216 },
             file: b"",
         },
+    ];
+    &ROWS
+}
+
+// Files that seem to be texts.
+fn text_rows() -> &'static [SectionRow] {
+    static ROWS: [SectionRow; 2] = [
         SectionRow {
             about: "a text in JSON",
             fault: DecompileFault::Section {
@@ -110,6 +131,13 @@ pub(crate) fn section_rows() -> &'static [SectionRow] {
             },
             file: b"\t <tsduck",
         },
+    ];
+    &ROWS
+}
+
+// Files that begin with the byte of a packet.
+fn packet_rows() -> &'static [SectionRow] {
+    static ROWS: [SectionRow; 2] = [
         SectionRow {
             about: "one packet",
             fault: DecompileFault::Section {
@@ -134,4 +162,15 @@ pub(crate) fn section_rows() -> &'static [SectionRow] {
         },
     ];
     &ROWS
+}
+
+/// The tables of rows, each about one topic.
+pub(crate) fn section_tables() -> [&'static [SectionRow]; 5] {
+    [
+        damaged_rows(),
+        form_rows(),
+        number_rows(),
+        text_rows(),
+        packet_rows(),
+    ]
 }
