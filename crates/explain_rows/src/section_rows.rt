@@ -137,7 +137,7 @@ fn text_rows() -> &'static [SectionRow] {
 
 // Files that begin with the byte of a packet.
 fn packet_rows() -> &'static [SectionRow] {
-    static ROWS: [SectionRow; 2] = [
+    static ROWS: [SectionRow; 3] = [
         SectionRow {
             about: "one packet",
             fault: DecompileFault::Section {
@@ -148,6 +148,17 @@ fn packet_rows() -> &'static [SectionRow] {
                 },
             },
             file: &[0x47; 188],
+        },
+        SectionRow {
+            about: "a packet and the first byte of the next one",
+            fault: DecompileFault::Section {
+                offset: 0,
+                fault: SectionFault::Short {
+                    wanted: 260,
+                    found: 189,
+                },
+            },
+            file: &[0x47; 189],
         },
         SectionRow {
             about: "a table_id that is the byte of a packet",
