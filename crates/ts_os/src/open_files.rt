@@ -1,6 +1,6 @@
 //! Which regular files are open, so that none is read and written at once.
 ghost use Rattle.std.specs.Prelude.{◌≡◌};
-ghost use Rattle.ts_os.specs.OpenFiles.{is_output};
+ghost use Rattle.ts_os.specs.OpenFiles.{is_output, asked_for};
 
 use crate::file_id::FileId;
 use std::alloc::{AllocError, Global};
@@ -22,12 +22,14 @@ pub(crate) struct OpenOutput {
 pub(crate) struct OpenFiles {
     inputs: Vec<FileId>,
     outputs: Vec<OpenOutput>,
-    protected: Vec<FileId>,
+
+    /// The regular files of the protected names; `None` where a name has none.
+    protected: Vec<Option<FileId>>,
 }
 
 impl OpenFiles {
     ghost use Rattle.std.specs.Prelude.{◌≡◌, ◌<◌, ◌∷◌, ◌++◌, [], vec_len, vec_capacity, OnOk, false};
-    ghost use Rattle.ts_os.specs.OpenFiles.{may_read, may_write};
+    ghost use Rattle.ts_os.specs.OpenFiles.{may_read, may_write, asked_for, was_asked_for, without_input, without_output};
 
     /// No file is open, and none is protected. It allocates nothing.
     pub(crate) fn new(alloc: Global) -> OpenFiles
@@ -42,8 +44,8 @@ impl OpenFiles {
         }
     }
 
-    /// From now on these files, and no others, are protected.
-    pub(crate) fn protect(&mut self, files: Vec<FileId>)
+    /// From now on these files, and no others, are protected: those of the protected names, `None` where a name has none.
+    pub(crate) fn protect(&mut self, files: Vec<Option<FileId>>)
         ensures { self.new ≡ record self.old { protected = files } }
     {
         self.protected = files;
@@ -73,21 +75,20 @@ impl OpenFiles {
     /// asked for.
     pub(crate) fn may_read(&mut self, asked: FileId) -> bool
         ensures may { result ≡ may_read self.old asked }
+        ensures noted { self.new.outputs.items ≡ asked_for asked self.old.outputs.items }
         ensures inputs { self.new.inputs ≡ self.old.inputs }
         ensures protected { self.new.protected ≡ self.old.protected }
     {
-        if !is_output(&self.outputs, asked) {
-            return true;
-        }
+        let may = !is_output(&self.outputs, asked);
         note_wanted(&mut self.outputs, asked);
-        false
+        may
     }
 
     /// Whether a file may be opened as an output.
     pub(crate) fn may_write(&self, asked: FileId) -> bool
         ensures { result ≡ may_write self.now asked }
     {
-        !self.inputs.contains(&asked) && !self.protected.contains(&asked)
+        !self.inputs.contains(&asked) && !self.protected.contains(&Some(asked))
     }
 
     /// Notes that a file was opened as an input. A file may be open as several of them.
@@ -115,21 +116,24 @@ impl OpenFiles {
 
     /// Notes that an input of a file was closed: it is no longer open as one of those that it was open as.
     pub(crate) fn closed_in(&mut self, closed: FileId)
+        ensures inputs { self.new.inputs.items ≡ without_input closed self.old.inputs.items }
         ensures outputs { self.new.outputs ≡ self.old.outputs }
         ensures protected { self.new.protected ≡ self.old.protected }
     {
         if let Some(at) = self.inputs.iter().position(|it| *it == closed) {
-            self.inputs.swap_remove(at);
+            self.inputs.remove(at);
         }
     }
 
     /// Notes that the output of a file was closed. Returns whether it was asked for as an input.
     pub(crate) fn closed_out(&mut self, closed: FileId) -> bool
+        ensures asked { result ≡ was_asked_for closed self.old.outputs.items }
         ensures inputs { self.new.inputs ≡ self.old.inputs }
+        ensures outputs { self.new.outputs.items ≡ without_output closed self.old.outputs.items }
         ensures protected { self.new.protected ≡ self.old.protected }
     {
         match self.outputs.iter().position(|it| it.file == closed) {
-            Some(at) => self.outputs.swap_remove(at).wanted,
+            Some(at) => self.outputs.remove(at).wanted,
             None => false,
         }
     }
@@ -143,8 +147,10 @@ fn is_output(outputs: &[OpenOutput], asked: FileId) -> bool
 }
 
 // Notes of the output of a file that this was asked for as an input.
-fn note_wanted(outputs: &mut [OpenOutput], asked: FileId) {
-    if let Some(output) = outputs.iter_mut().find(|it| it.file == asked) {
-        output.wanted = true;
+fn note_wanted(outputs: &mut [OpenOutput], asked: FileId)
+    ensures { outputs.new ≡ asked_for asked outputs.old }
+{
+    for output in outputs.iter_mut() {
+        output.wanted |= output.file == asked;
     }
 }

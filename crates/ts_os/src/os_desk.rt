@@ -1,5 +1,5 @@
 //! The files and standard streams of the system, as a desk.
-ghost use Rattle.std.specs.Prelude.{◌≡◌, ◌<◌, ◌≤◌, ◌||◌, [], false, length, take, is_err, vec_len, vec_capacity, IfOk, OnErr, IfSome};
+ghost use Rattle.std.specs.Prelude.{◌≡◌, ◌<◌, ◌≤◌, ◌||◌, [], false, length, take, is_err, vec_len, vec_capacity, IfOk, OnOk, OnErr, IfSome};
 ghost use Rattle.std.specs.Option.{option_copied, option_map};
 ghost use Rattle.std.specs.Str.{bytes_eq};
 ghost use Rattle.ts_outside.specs.declared.requests.Purpose.TheVariants.{Input, Output, File as Whole};
@@ -71,18 +71,11 @@ impl OsDesk {
     }
 
     /// Protects the regular files of these names: none of them is opened as an output from now on. `Err` means out of memory,
-    /// and changes nothing.
+    /// and changes nothing. Which files these are, the system says for each name, and no clause.
     pub fn protect(&mut self, names: &[NameText]) -> Result<(), AllocError>
         ensures { self.new ≡ self.old }
     {
-        let mut files = Vec::new(self.rt.alloc());
-        for name in names {
-            if let Some(id) = regular(&self.rt, name.as_str()) {
-                files.push(id)?;
-            }
-        }
-        self.files.protect(files);
-        Ok(())
+        protect_named(&self.rt, &mut self.files, names)
     }
 
     /// From now on the bytes of the file that was read last are noted.
@@ -117,6 +110,25 @@ fn open_input(
         files.read_from(id);
     }
     Ok(source)
+}
+
+// Protects, for each of these names, the file that the system answers for it.
+fn protect_named(
+    rt: &HostRuntime,
+    files: &mut OpenFiles,
+    names: &[NameText],
+) -> Result<(), AllocError>
+    ensures each { OnOk result (length files.new.protected.items ≡ length names.now) }
+    ensures failed { OnErr result (files.new ≡ files.old) }
+    ensures inputs { files.new.inputs ≡ files.old.inputs }
+    ensures outputs { files.new.outputs ≡ files.old.outputs }
+{
+    let mut answers = Vec::new(rt.alloc());
+    for name in names {
+        answers.push(regular(rt, name.as_str()))?;
+    }
+    files.protect(answers);
+    Ok(())
 }
 
 /// The regular file of a name; `None` where there is none.
