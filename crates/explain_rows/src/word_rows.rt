@@ -8,7 +8,7 @@ pub(crate) struct WordsRow {
     pub(crate) rule: WordsRule,
 }
 
-static ROWS: [WordsRow; 70] = [
+static ROWS: [WordsRow; 71] = [
     WordsRow {
         words: "-P filter --pid 9000 -O drop",
         at: 0,
@@ -126,6 +126,11 @@ static ROWS: [WordsRow; 70] = [
     },
     WordsRow {
         words: "-P sdt --name News",
+        at: 0,
+        rule: WordsRule::Conflict,
+    },
+    WordsRow {
+        words: "-P sdt --service 1 --name News --new-version 3 --increment-version",
         at: 0,
         rule: WordsRule::Conflict,
     },
