@@ -2,6 +2,7 @@
 use crate::bad_value::{form_text, list_text, put_value};
 use crate::help_table::HelpTable;
 use crate::names::put_names;
+use crate::option_row::OptionRow;
 use crate::role::value_part;
 use crate::said::{Fault, Said};
 use crate::segment::{head_of, row_of, word_or_none, words_from};
@@ -10,6 +11,11 @@ use crate::unknown::{put_unknown_name, put_unknown_option};
 use crate::wanted::put_wanted;
 use option_words::read_number_within;
 use std::alloc::{AllocError, Global};
+
+// Puts how an option or operand is written, and what it means.
+fn put_meaning(text: &mut String, row: &OptionRow) -> Result<(), AllocError> {
+    write!(text, "{}: {}\n", row.form, row.meaning)
+}
 
 // Puts what is said of one option.
 fn put_option_said(
@@ -20,14 +26,9 @@ fn put_option_said(
 ) -> Result<(), AllocError> {
     match said {
         Said::NoValue(row) => {
-            write!(
-                text,
-                "{} needs a value\n{}: {}\n{}",
-                row.name,
-                row.form,
-                row.meaning,
-                form_text(row.takes)
-            )
+            write!(text, "{} needs a value\n", row.name)?;
+            put_meaning(text, row)?;
+            text.push_str(form_text(row.takes))
         }
         Said::Again(row) => {
             write!(
@@ -39,16 +40,13 @@ fn put_option_said(
         }
         Said::TakesNone(row) => write!(text, "{} takes no value\n", row.name),
         Said::BadValue(row) => {
-            write!(text, "{}: {}\n", row.form, row.meaning)?;
+            put_meaning(text, row)?;
             put_value(alloc, text, row, value_part(word))
         }
         Said::Apart(row) => write!(text, "only one of these may be given: {}\n", row.choice),
         Said::Clash(row) => {
-            write!(
-                text,
-                "a later pair has the same first or the same second number\n{}: {}\n",
-                row.form, row.meaning
-            )
+            text.push_str("a later pair has the same first or the same second number\n")?;
+            put_meaning(text, row)
         }
         Said::Alone(row) => write!(text, "{} is only allowed with {}\n", row.name, row.with),
         _ => Ok(()),
