@@ -24,12 +24,12 @@ pub(crate) fn form_text(takes: Takes) -> &'static str {
     }
 }
 
-/// How all values of an option stand in one list, where it takes one.
+/// How all values of an option are given in one list, where it takes one.
 pub(crate) fn list_text(takes: Takes) -> &'static str {
     match takes {
-        Takes::Ranges(_, _) => "all of its numbers stand in one list, as 0,16-18,0x100\n",
-        Takes::Pairs(Sign::Slash, _, _) => "all of its pairs stand in one list, as 1/2,3/4\n",
-        Takes::Pairs(Sign::Equals, _, _) => "all of its pairs stand in one list, as 1=2,3=4\n",
+        Takes::Ranges(_, _) => "all of its numbers are given in one list, as 0,16-18,0x100\n",
+        Takes::Pairs(Sign::Slash, _, _) => "all of its pairs are given in one list, as 1/2,3/4\n",
+        Takes::Pairs(Sign::Equals, _, _) => "all of its pairs are given in one list, as 1=2,3=4\n",
         _ => "",
     }
 }
@@ -56,7 +56,7 @@ fn sign_text(takes: Takes, value: &str) -> &'static str {
 // Puts the first of these that is so: a blank in the value, a comma between operands, a piece of it that is no number.
 fn put_slip(text: &mut String, row: &OptionRow, value: &str) -> Result<(), AllocError> {
     if has_sign(value, ' ') {
-        return text.push_str("no blank may stand in the value\n");
+        return text.push_str("no blank is allowed in the value\n");
     }
     if row.many && has_sign(value, ',') {
         return match row.takes {

@@ -65,18 +65,18 @@ fn sync_text(alloc: Global, plan: &Plan, packet: u64, head: &[u8]) -> Result<Str
             )?;
         }
         _ if packet > 0 => {
-            text.push_str(": other bytes stand between its packets, or it is damaged")?;
+            text.push_str(": there are other bytes between its packets, or it is damaged")?;
             text.push_str("; docs/recipes.md has a way to mend it\n")?;
         }
         Some(Seen::Rtp) => {
             text.push_str("; it begins as RTP does, with a header before every few packets")?;
-            text.push_str(": docs/recipes.md has a way to take out what stands between packets\n")?;
+            text.push_str(": docs/recipes.md has a way to take out what is between packets\n")?;
         }
         Some(Seen::Behind(before)) => {
             let next = before.saturating_add(1);
             write!(
                 text,
-                "; packets begin at byte {before}: tail -c +{next} leaves out what stands before\n"
+                "; packets begin at byte {before}: tail -c +{next} leaves out what is before them\n"
             )?;
         }
         _ if head.get(4) == Some(&0x47) => {
