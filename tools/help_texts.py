@@ -1,6 +1,14 @@
-"""Reads the texts of help: man/tsp.help, man/tstabcomp.help, man/tsswitch.help and man/plugins/NAME.help.
+"""Reads the texts of help, man/tsp.help, man/tstabcomp.help, man/tsswitch.help and man/plugins/NAME.help, and what the code says
+of the segments of a command line, of which tools/texts makes most of them.
 
-A text of a plugin is made of these parts, and tsp.help has rows in the same form:
+What the code says is the end of crates/explain_rows/stdout, which the gate compares with what is printed of the tables of options:
+
+    help of -P NAME:
+    usage: -P NAME [--option N] ..
+        --option N: 1 to 31, default 1: what it does
+    rule: two sentences
+
+The general options come first, then inputs, outputs and plugins, in the order of the code. A text of a plugin is made of these parts, and tsp.help has rows in the same form:
 
     NAME: what the plugin does, in one line
 
@@ -16,6 +24,7 @@ A text of a plugin is made of these parts, and tsp.help has rows in the same for
 A row begins after four spaces, and goes on where a line has more of them. Two spaces or a line's end part what is
 written from what it means. Where numbers have ranges, these come first, up to a colon.
 """
+import functools
 import pathlib
 import re
 import typing
@@ -23,10 +32,8 @@ import typing
 TOP = pathlib.Path(__file__).resolve().parent.parent
 MAN = TOP / "man"
 
-# `0 to 31` or `ID 1 to 65535`, and what such ranges look like at the beginning of a row's meaning.
-NUMBER = r"(?:2\^\d+(?: - 1)?|\d[\d,]*)"
-RANGE = re.compile(rf"(?:([A-Z]+) )?({NUMBER}) to ({NUMBER})( bytes)?")
-RANGES = re.compile(rf"((?:{RANGE.pattern})(?:, (?:{RANGE.pattern}))*)(, default [^:]*)?: ")
+# The first line of what the code says of segments, which stands behind all else that the program prints.
+FIRST = "help of the general options:\n"
 
 
 class Row(typing.NamedTuple):
@@ -48,12 +55,19 @@ class Row(typing.NamedTuple):
         """What stands for the option's value, and nothing for a flag."""
         return self.form.partition(" ")[2] if self.is_option else self.form
 
+
+class Segment(typing.NamedTuple):
+    """What the code says of the general options, an input, an output or a plugin."""
+    first: str
+    name: str
+    usage: str
+    options: list
+    rule: str
+
     @property
-    def ranges(self):
-        """The ranges as (name or "", least, most), and whether they count bytes."""
-        found = RANGES.match(self.meaning)
-        told = RANGE.findall(found[1]) if found else []
-        return [(name, number(least), number(most)) for name, least, most, _ in told], any(it[3] for it in told)
+    def names(self):
+        """The names of its options, without their dashes."""
+        return {it.name[2:] for it in self.options if it.is_option}
 
 
 class Plugin(typing.NamedTuple):
@@ -65,13 +79,6 @@ class Plugin(typing.NamedTuple):
     rule: str
     shows: str
     example: list
-
-
-def number(text):
-    """The number of `8191`, `1,000,000`, `2^40` or `2^64 - 1`."""
-    power, _, less = text.replace(",", "").partition(" - ")
-    base, _, exponent = power.partition("^")
-    return int(base) ** int(exponent or 1) - int(less or 0)
 
 
 def rows_of(lines):
@@ -86,10 +93,10 @@ def rows_of(lines):
     return rows
 
 
-def parts_of(path):
+def parts_of(text):
     """The parts of a text: each line that begins at the margin, with the lines after it."""
     parts = []
-    for line in path.read_text(encoding="utf-8").splitlines():
+    for line in text.splitlines():
         if line and not line.startswith(" "):
             parts.append((line, []))
         elif line:
@@ -97,13 +104,13 @@ def parts_of(path):
     return parts
 
 
-def plugin(path):
+def plugin(name, text):
     """The plugin of a text, which has to have all parts and no others."""
-    parts = parts_of(path)
+    parts = parts_of(text)
     heads = [head.split(",")[0].rstrip(":") for head, _ in parts[1:]]
-    name, colon, summary = parts[0][0].partition(": ")
-    if heads != ["Options", "Rule", "Example"] or not colon or name != path.stem:
-        raise SystemExit(f"{path}: not of the form that tools/help_texts.py tells")
+    named, colon, summary = parts[0][0].partition(": ")
+    if heads != ["Options", "Rule", "Example"] or not colon or named != name:
+        raise SystemExit(f"man/plugins/{name}.help: not of the form that tools/help_texts.py tells")
     (_, synopsis), (_, options), (_, rule), (shows, example) = parts
     return Plugin(name, summary, " ".join(" ".join(synopsis).split()), rows_of(options), " ".join(" ".join(rule).split()),
                   shows[len("Example, "):].rstrip(":"), [line[4:] for line in example])
@@ -111,15 +118,40 @@ def plugin(path):
 
 def plugin_names():
     """The plugins in the order in which the code lists them."""
-    listed = (TOP / "crates/plug_set/specs/Plugins.antt").read_text(encoding="utf-8")
-    return re.findall(r'^name_of_kind kind\.\w+ = codes "(\w+)"$', listed, re.M)
+    listed = (TOP / "crates/plug_set/plugins.txt").read_text(encoding="utf-8").splitlines()
+    return [line.split()[0] for line in listed if line.strip() and not line.startswith("#")]
 
 
 def plugins():
-    """All plugins."""
-    return [plugin(MAN / "plugins" / f"{name}.help") for name in plugin_names()]
+    """All plugins, of their texts as they stand."""
+    return [plugin(name, (MAN / "plugins" / f"{name}.help").read_text(encoding="utf-8")) for name in plugin_names()]
+
+
+def rows_in(text, head):
+    """The rows of one part of a text."""
+    return next(rows_of(lines) for line, lines in parts_of(text) if line.startswith(head))
 
 
 def rows(program, head):
-    """The rows of one part of man/PROGRAM.help."""
-    return next(rows_of(lines) for line, lines in parts_of(MAN / f"{program}.help") if line.startswith(head))
+    """The rows of one part of man/PROGRAM.help as it stands."""
+    return rows_in((MAN / f"{program}.help").read_text(encoding="utf-8"), head)
+
+
+def segment(head, usage, lines):
+    """The segment of its lines: the one with its name, its usage, and those of its options, of which the last is its rule."""
+    first, name = re.fullmatch(r"help of (\S+) (.+):", head).groups()
+    options = [Row(*line.strip().split(": ", 1)) for line in lines[:-1]]
+    return Segment(first, name, usage.partition(": ")[2], options, lines[-1].partition(": ")[2])
+
+
+@functools.lru_cache(None)
+def segments():
+    """All that the code says of segments, in its order."""
+    _, first, said = (TOP / "crates/explain_rows/stdout").read_text(encoding="utf-8").partition(FIRST)
+    heads = re.split(r"(?m)^(?=help of )", first + said)
+    return [segment(head, usage, lines) for head, usage, *lines in (it.splitlines() for it in heads if it)]
+
+
+def segment_of(first, name):
+    """What the code says of one segment, as of `-P`, `filter`."""
+    return next(it for it in segments() if (it.first, it.name) == (first, name))

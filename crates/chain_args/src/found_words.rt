@@ -3,26 +3,26 @@
 ghost use Rattle.std.specs.Prelude.{◌≡◌, MatchResult, false, map, true};
 ghost use Rattle.std.specs.String.{string_bytes};
 ghost use Rattle.clap.specs.Faults.{is_simple_and_free};
-ghost use Rattle.option_words.specs.OptionWords.{rows_of_words};
+ghost use Rattle.option_words.specs.OptionWords.{rows_of_options};
 ghost use Rattle.option_words.specs.Options.{command_of, findings, is_taken};
 ghost use Rattle.option_words.specs.Refusal.{IsRefusedBy};
 ghost use Rattle.option_words.specs.declared.words_rule.WordsRule.TheVariants.{Shape};
 
-use option_words::{OptionWord, ParsedOptions, Refusal, command_with};
+use option_words::{OptionRow, ParsedOptions, Refusal, command_with};
 use std::alloc::Global;
 
 /// What the command of these options finds in the words; the rule `Shape` is broken exactly where it does not take
 /// them. No reader of a segment has to hold the command, which is a large value.
 pub(crate) fn found_words<'a>(
     alloc: Global,
-    options: &[OptionWord<'a>],
+    options: &[OptionRow<'a>],
     words: &'a [String],
 ) -> Result<ParsedOptions<'a>, Refusal>
-    requires { is_simple_and_free (command_of (rows_of_words options.now)) ≡ true }
+    requires { is_simple_and_free (command_of (rows_of_options options.now)) ≡ true }
     ensures { MatchResult result
-        (λ found. (is_taken (command_of (rows_of_words options.entry.now)) (map string_bytes words.entry.now) ≡ true)
-        × (found ≡ findings (command_of (rows_of_words options.entry.now)) (map string_bytes words.entry.now)))
-        (IsRefusedBy Shape (is_taken (command_of (rows_of_words options.entry.now)) (map string_bytes words.entry.now)
+        (λ found. (is_taken (command_of (rows_of_options options.entry.now)) (map string_bytes words.entry.now) ≡ true)
+        × (found ≡ findings (command_of (rows_of_options options.entry.now)) (map string_bytes words.entry.now)))
+        (IsRefusedBy Shape (is_taken (command_of (rows_of_options options.entry.now)) (map string_bytes words.entry.now)
         ≡ false)) }
 {
     ParsedOptions::of(command_with(alloc, options)?, words)

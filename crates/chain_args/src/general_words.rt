@@ -4,11 +4,15 @@ ghost use Rattle.std.specs.Prelude.{◌≡◌, IfOk, map};
 ghost use Rattle.std.specs.String.{string_bytes};
 ghost use Rattle.chain_args.specs.General.{general};
 ghost use Rattle.chain_args.specs.LawfulPlan.{IsLawfulGeneral};
+ghost use Rattle.option_words.specs.OptionWords.{rows_of_options};
 ghost use Rattle.option_words.specs.Refusal.{Reads, ReadsParsed};
 
 use crate::found_words::found_words;
 use crate::general_conf::GeneralConf;
-use option_words::{OptionWord, ParsedOptions, Refusal};
+use option_words::{
+    Beside, Need, OptionRow, OptionText, OptionWord, ParsedOptions, Refusal, SegmentHelp, Sign,
+    Takes,
+};
 use std::alloc::Global;
 
 /// The maximum number of packets of one stuffing, of the buffer, and of one turn of a stage.
@@ -18,14 +22,73 @@ const MOST_SIZE: u64 = 1_000_000;
 const MOST_BETWEEN: u64 = 1_000;
 
 // The general options by their names.
-static GENERAL: [OptionWord; 7] = [
-    OptionWord::Value("add-start-stuffing"),
-    OptionWord::Value("add-stop-stuffing"),
-    OptionWord::Value("add-input-stuffing"),
-    OptionWord::Value("buffer-packets"),
-    OptionWord::Value("max-flushed-packets"),
-    OptionWord::Value("max-input-packets"),
-    OptionWord::Flag("ignore-joint-termination"),
+static GENERAL: [OptionRow; 7] = [
+    OptionRow {
+        word: OptionWord::Value("add-start-stuffing", Takes::Number(0, MOST_SIZE)),
+        text: OptionText {
+            value: "N",
+            meaning: "0 to 1,000,000, default 0: put N null packets before the first packet of the input",
+            need: Need::Free,
+            beside: Beside::Any,
+        },
+    },
+    OptionRow {
+        word: OptionWord::Value("add-stop-stuffing", Takes::Number(0, MOST_SIZE)),
+        text: OptionText {
+            value: "N",
+            meaning: "0 to 1,000,000, default 0: put N null packets after the last packet, where the input came to its plain end",
+            need: Need::Free,
+            beside: Beside::Any,
+        },
+    },
+    OptionRow {
+        word: OptionWord::Value(
+            "add-input-stuffing",
+            Takes::Pair(Sign::Slash, (0, MOST_BETWEEN), (1, MOST_SIZE)),
+        ),
+        text: OptionText {
+            value: "N/M",
+            meaning: "N 0 to 1,000, M 1 to 1,000,000, default 0/1: put N null packets after each M packets of the input",
+            need: Need::Free,
+            beside: Beside::Any,
+        },
+    },
+    OptionRow {
+        word: OptionWord::Value("buffer-packets", Takes::Number(1, MOST_SIZE)),
+        text: OptionText {
+            value: "N",
+            meaning: "1 to 1,000,000, default 8,192, on one processor 1,024: the packets of the buffer that all plugins share: so far beyond the end of the run the input may be read",
+            need: Need::Free,
+            beside: Beside::Any,
+        },
+    },
+    OptionRow {
+        word: OptionWord::Value("max-flushed-packets", Takes::Number(1, MOST_SIZE)),
+        text: OptionText {
+            value: "N",
+            meaning: "1 to 1,000,000, default 2,048, on one processor 1,024: the packets that a plugin or the output takes in one batch; where this or --max-input-packets alone is given, the other counts as 10,000",
+            need: Need::Free,
+            beside: Beside::Any,
+        },
+    },
+    OptionRow {
+        word: OptionWord::Value("max-input-packets", Takes::Number(1, MOST_SIZE)),
+        text: OptionText {
+            value: "N",
+            meaning: "1 to 1,000,000, default 2,048, on one processor 1,024: the packets that the input takes in one batch",
+            need: Need::Free,
+            beside: Beside::Any,
+        },
+    },
+    OptionRow {
+        word: OptionWord::Flag("ignore-joint-termination"),
+        text: OptionText {
+            value: "",
+            meaning: "no plugin ends the run jointly with others: until --joint-termination passes every packet",
+            need: Need::Free,
+            beside: Beside::Any,
+        },
+    },
 ];
 
 fn general_settings(found: &ParsedOptions) -> Result<GeneralConf, Refusal>
@@ -57,4 +120,17 @@ pub(crate) fn read_general(alloc: Global, words: &[String]) -> Result<GeneralCon
 {
     let found = found_words(alloc, &GENERAL, words)?;
     general_settings(&found)
+}
+
+/// What is said of the general options.
+pub fn general_help() -> SegmentHelp
+    ensures { rows_of_options result.options.now ≡ general.rows }
+{
+    SegmentHelp {
+        first: "the",
+        name: "general options",
+        usage: "[general options] [-I input] [-P plugin [options]]... [-O output]",
+        rule: "The general options stand before all others.",
+        options: &GENERAL,
+    }
 }

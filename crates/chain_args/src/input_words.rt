@@ -7,12 +7,16 @@ ghost use Rattle.chain_args.specs.Inputs.{file_input, input_kind_named, null_inp
 ghost use Rattle.chain_args.specs.LawfulPlan.{IsLawfulInput};
 ghost use Rattle.option_words.specs.Options.{command_of};
 ghost use Rattle.option_words.specs.OptionTable.{OptionTable};
+ghost use Rattle.option_words.specs.OptionWords.{rows_of_options};
 ghost use Rattle.option_words.specs.Refusal.{Reads, ReadsParsed};
 
 use crate::form_words::read_format;
 use crate::found_words::found_words;
 use crate::input_conf::{InputConf, MOST_SEED};
-use option_words::{OptionWord, ParsedOptions, Refusal, WordsRule};
+use option_words::{
+    Beside, Need, OptionRow, OptionText, OptionWord, ParsedOptions, Refusal, SegmentHelp, Takes,
+    WordsRule,
+};
 use plug_conf::MOST_PACKETS;
 use std::alloc::Global;
 
@@ -51,7 +55,26 @@ impl InputKind {
 }
 
 // The operand and the option of `file`.
-static FILE: [OptionWord; 2] = [OptionWord::Operand("name"), OptionWord::Value("format")];
+static FILE: [OptionRow; 2] = [
+    OptionRow {
+        word: OptionWord::Operand("name", Takes::Text),
+        text: OptionText {
+            value: "NAME",
+            meaning: "the file; without a name, standard input (the default). F says how it keeps its packets: ts, alone (the default); m2ts, each after four other bytes, as a Blu-ray disc does; rs204, each before sixteen other bytes, as receivers with Reed-Solomon codes do",
+            need: Need::Free,
+            beside: Beside::Any,
+        },
+    },
+    OptionRow {
+        word: OptionWord::Value("format", Takes::Choice(&["ts", "m2ts", "rs204"])),
+        text: OptionText {
+            value: "F",
+            meaning: "the file; without a name, standard input (the default). F says how it keeps its packets: ts, alone (the default); m2ts, each after four other bytes, as a Blu-ray disc does; rs204, each before sixteen other bytes, as receivers with Reed-Solomon codes do",
+            need: Need::Free,
+            beside: Beside::Any,
+        },
+    },
+];
 
 fn read_file(alloc: Global, words: &[String]) -> Result<InputConf, Refusal>
     ensures reads { Reads file_input (map string_bytes words.now) result }
@@ -73,7 +96,15 @@ fn file_settings(alloc: Global, found: &ParsedOptions) -> Result<InputConf, Refu
 }
 
 // The operand of `null`.
-static NULL: [OptionWord; 1] = [OptionWord::Operand("count")];
+static NULL: [OptionRow; 1] = [OptionRow {
+    word: OptionWord::Operand("count", Takes::Number(0, MOST_PACKETS)),
+    text: OptionText {
+        value: "N",
+        meaning: "0 to 2^40: N null packets",
+        need: Need::Required,
+        beside: Beside::Any,
+    },
+}];
 
 fn read_null(alloc: Global, words: &[String]) -> Result<InputConf, Refusal>
     ensures reads { Reads null_input (map string_bytes words.now) result }
@@ -95,7 +126,26 @@ fn null_settings(found: &ParsedOptions) -> Result<InputConf, Refusal>
 }
 
 // The operands of `testgen`.
-static TESTGEN: [OptionWord; 2] = [OptionWord::Operand("seed"), OptionWord::Operand("count")];
+static TESTGEN: [OptionRow; 2] = [
+    OptionRow {
+        word: OptionWord::Operand("seed", Takes::Number(0, MOST_SEED)),
+        text: OptionText {
+            value: "SEED",
+            meaning: "SEED 0 to 2^64 - 1, N 0 to 2^40: the first N packets of the valid stream that is made from the number SEED: two services with their tables, PCRs, payloads and null packets",
+            need: Need::Required,
+            beside: Beside::Any,
+        },
+    },
+    OptionRow {
+        word: OptionWord::Operand("count", Takes::Number(0, MOST_PACKETS)),
+        text: OptionText {
+            value: "N",
+            meaning: "SEED 0 to 2^64 - 1, N 0 to 2^40: the first N packets of the valid stream that is made from the number SEED: two services with their tables, PCRs, payloads and null packets",
+            need: Need::Required,
+            beside: Beside::Any,
+        },
+    },
+];
 
 fn read_testgen(alloc: Global, words: &[String]) -> Result<InputConf, Refusal>
     ensures reads { Reads testgen_input (map string_bytes words.now) result }
@@ -121,4 +171,43 @@ fn testgen_settings(found: &ParsedOptions) -> Result<InputConf, Refusal>
         seed: seed.unwrap_or(0),
         packets: count.unwrap_or(0),
     })
+}
+
+fn file_help() -> SegmentHelp {
+    SegmentHelp {
+        first: "-I",
+        name: "file",
+        usage: "-I file [NAME] [--format F]",
+        rule: "the file; without a name, standard input (the default). F says how it keeps its packets: ts, alone (the default); m2ts, each after four other bytes, as a Blu-ray disc does; rs204, each before sixteen other bytes, as receivers with Reed-Solomon codes do",
+        options: &FILE,
+    }
+}
+
+fn null_help() -> SegmentHelp
+    ensures { rows_of_options result.options.now ≡ null_input.rows }
+{
+    SegmentHelp {
+        first: "-I",
+        name: "null",
+        usage: "-I null N",
+        rule: "0 to 2^40: N null packets",
+        options: &NULL,
+    }
+}
+
+fn testgen_help() -> SegmentHelp
+    ensures { rows_of_options result.options.now ≡ testgen_input.rows }
+{
+    SegmentHelp {
+        first: "-I",
+        name: "testgen",
+        usage: "-I testgen SEED N",
+        rule: "SEED 0 to 2^64 - 1, N 0 to 2^40: the first N packets of the valid stream that is made from the number SEED: two services with their tables, PCRs, payloads and null packets",
+        options: &TESTGEN,
+    }
+}
+
+/// What is said of the inputs.
+pub fn input_helps() -> [SegmentHelp; 3] {
+    [file_help(), null_help(), testgen_help()]
 }

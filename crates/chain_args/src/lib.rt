@@ -18,9 +18,12 @@ mod segments;
 mod words_fault;
 
 pub use general_conf::GeneralConf;
+pub use general_words::general_help;
 pub use input_conf::InputConf;
+pub use input_words::input_helps;
 pub use option_words::WordsRule;
 pub use output_conf::OutputConf;
+pub use output_words::output_helps;
 pub use packet_forms::Form;
 pub use plan_of_words::plan;
 pub use plan_type::Plan;

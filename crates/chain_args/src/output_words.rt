@@ -4,11 +4,12 @@ ghost use Rattle.std.specs.Prelude.{◌≡◌, map};
 ghost use Rattle.std.specs.String.{string_bytes};
 ghost use Rattle.chain_args.specs.Outputs.{drop_output, file_output, output_kind_named, options_of_output};
 ghost use Rattle.option_words.specs.OptionTable.{OptionTable};
+ghost use Rattle.option_words.specs.OptionWords.{rows_of_options};
 ghost use Rattle.option_words.specs.Refusal.{Reads};
 
 use crate::found_words::found_words;
 use crate::output_conf::OutputConf;
-use option_words::{OptionWord, Refusal};
+use option_words::{Beside, Need, OptionRow, OptionText, OptionWord, Refusal, SegmentHelp, Takes};
 use std::alloc::Global;
 
 /// The kinds of outputs.
@@ -42,7 +43,15 @@ impl OutputKind {
 }
 
 // The operand of `file`.
-static FILE: [OptionWord; 1] = [OptionWord::Operand("name")];
+static FILE: [OptionRow; 1] = [OptionRow {
+    word: OptionWord::Operand("name", Takes::Text),
+    text: OptionText {
+        value: "NAME",
+        meaning: "the file, which is emptied first, and is not opened where it is the input; without a name, standard output (the default)",
+        need: Need::Free,
+        beside: Beside::Any,
+    },
+}];
 
 fn read_file(alloc: Global, words: &[String]) -> Result<OutputConf, Refusal>
     ensures { Reads file_output (map string_bytes words.now) result }
@@ -56,4 +65,31 @@ fn read_drop(alloc: Global, words: &[String]) -> Result<OutputConf, Refusal>
 {
     let _found = found_words(alloc, &[], words)?;
     Ok(OutputConf::Drop)
+}
+
+fn file_help() -> SegmentHelp
+    ensures { rows_of_options result.options.now ≡ file_output.rows }
+{
+    SegmentHelp {
+        first: "-O",
+        name: "file",
+        usage: "-O file [NAME]",
+        rule: "the file, which is emptied first, and is not opened where it is the input; without a name, standard output (the default)",
+        options: &FILE,
+    }
+}
+
+fn drop_help() -> SegmentHelp {
+    SegmentHelp {
+        first: "-O",
+        name: "drop",
+        usage: "-O drop",
+        rule: "nothing is written",
+        options: &[],
+    }
+}
+
+/// What is said of the outputs.
+pub fn output_helps() -> [SegmentHelp; 2] {
+    [file_help(), drop_help()]
 }

@@ -1,5 +1,5 @@
 -- Worked rows, computed on the definitions. Packets have one byte here.
-use Rattle.std.proofs.Common.{◌≡◌, ℕ, List, [], ◌∷◌, length, replicate, Some, None, refl}
+use Rattle.std.proofs.Common.{false, ◌≡◌, ℕ, List, [], ◌∷◌, length, replicate, Some, None, refl}
 use Rattle.std.specs.Prelude.{nat_le, ◌==◌, if◌then◌else◌}
 use Rattle.ts_packet.specs.Cells.{Live, Dropped}
 use Rattle.ts_packet.specs.Labels.{no_labels}
@@ -21,6 +21,7 @@ rule_at n fate agreed = record {
   lines_of = λ history packet labels. [];
   summary_of = λ history. [];
   agrees = λ history. nat_le agreed (length history);
+  has_fault = λ history. false;
 }
 
 abbrev agrees_at : ℕ → PluginRule

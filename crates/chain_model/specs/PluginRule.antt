@@ -18,14 +18,15 @@ pub data RuleOutcome : Type 0 where
   refuses : (reason : Reason) → RuleOutcome
 
 -- what a plugin is: what becomes of a live packet with its labels, the labels that its cell has then, the lines
--- that the plugin gives at the packet's position, its summary over a history, and whether it agrees to end after
--- that history
+-- that the plugin gives at the packet's position, its summary over a history, whether it agrees to end after that
+-- history, and whether a run that is cut there has a fault: one that the plugin reports, or that it found nothing to do
 pub record PluginRule : Type 0 where
   pub outcome_of : List Cell → List ℕ → ℕ → RuleOutcome
   pub labels_of : List Cell → List ℕ → ℕ → ℕ
   pub lines_of : List Cell → List ℕ → ℕ → List (List ℕ)
   pub summary_of : List Cell → List (List ℕ)
   pub agrees : List Cell → Bool
+  pub has_fault : List Cell → Bool
 
 -- the rule that changes neither packets nor labels and reports nothing: that of the output
 unfoldable pub passing_rule : PluginRule
@@ -35,4 +36,5 @@ passing_rule = record {
   lines_of = λ _ _ _. [];
   summary_of = λ _. [];
   agrees = λ _. false;
+  has_fault = λ _. false;
 }

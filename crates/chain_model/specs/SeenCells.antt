@@ -27,4 +27,5 @@ only_rule only rule = record {
       if shares_label labels only then rule.lines_of (seen only history) packet labels else [];
   summary_of = λ history. rule.summary_of (seen only history);
   agrees = λ history. rule.agrees (seen only history);
+  has_fault = λ history. rule.has_fault (seen only history);
 }

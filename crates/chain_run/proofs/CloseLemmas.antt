@@ -23,7 +23,8 @@ use Rattle.chain_core.specs.Machine.{ChainState, progress_of_stages}
 use Rattle.chain_core.specs.ChainRun.{AllEnded}
 use Rattle.chain_core.specs.Close.{cause_of_stage, cut_at_close, cause_at_close}
 use Rattle.chain_core.specs.EveryOrder.{SoFar, AtClose}
-use Rattle.stage_run.specs.Seeing.{Seeing}
+use Rattle.plugin_trait.specs.declared.heard.Heard.{Heard}
+use Rattle.stage_run.specs.Seeing.{Seeing, heard_rule, heard_stands}
 use Rattle.stage_run.specs.declared.input_part.InputPart.{InputPart}
 use Rattle.stage_run.specs.declared.input_part.InputPart.TheVariants as input
 use Rattle.stage_run.specs.declared.output_part.OutputPart.{OutputPart}
@@ -296,8 +297,8 @@ module _ {S K P : Type 0} (see : Seeing S K P)
     pub made-input : gave-of 0 ≤ length list.cells
     made-input = let first = so-far.lists 0 (omega arith) in omega (arith, ap (λ (l : List Cell). length l) first.1, length-append (state.stages 0).given first.0)
 
-    pub met-all : (j : ℕ) (rest : List (StagePart S K P)) (made : List P) → AreTakenFrom see rest made → j + length made ≡ begun.plan.plugins
-        → ((i : ℕ) (d : StagePart S K P) → i < length made → slice_index_or rest i d ≡ goes.part (suc (j + i))) → AllMetFirst see.stands begun.rules list gave-of cut j made
+    pub met-all : (j : ℕ) (rest : List (StagePart S K P)) (made : List (Heard P)) → AreTakenFrom see rest made → j + length made ≡ begun.plan.plugins
+        → ((i : ℕ) (d : StagePart S K P) → i < length made → slice_index_or rest i d ≡ goes.part (suc (j + i))) → AllMetFirst (heard_stands see) begun.rules list gave-of cut j made
     met-all j [] [] taken number same = tt
     met-all j [] (plugin ∷ made) taken number same = absurd taken
     met-all j (part ∷ []) [] taken number same = tt
@@ -307,7 +308,7 @@ module _ {S K P : Type 0} (see : Seeing S K P)
         let is : part ≡ goes.part (suc j) = same 0 part (omega arith) ∙ ap (λ n. goes.part (suc n)) (omega arith) in
         let here = at-plugin j lt in
         let own = by.stands (suc j) (omega (arith, lt)) in
-        let holds : see.stands plugin (goes.lists (suc j)).met (goes.lists (suc j)).mark =
+        let holds : heard_stands see plugin (goes.lists (suc j)).met (goes.lists (suc j)).mark =
         taken.0.holds (goes.lists (suc j)) (state.stages (suc j)).ended (subst (λ p. PartStands see p (goes.lists (suc j)) (state.stages (suc j)).ended) (sym is) own.stands_for) in
         let reached : cut ≤ length (state.stages (suc j)).given = at-close.reached (suc j) (omega arith) in
         let falls : length (state.stages (suc j)).given ≤ length (state.stages j).given = given-falls laws begun.plan goes.lawful_run.lawful.users goes.visits by.run (suc j) j (omega arith) in
@@ -316,7 +317,7 @@ module _ {S K P : Type 0} (see : Seeing S K P)
         sym (ap (take (gave-of (suc j))) prefix.1 ∙ take-append-le (gave-of (suc j)) (state.stages j).given prefix.0 falls) in (
           record {
             mark = (goes.lists (suc j)).mark;
-            holds = subst (λ (h : List Cell). see.stands plugin h (goes.lists (suc j)).mark) (here.met ∙ first-of) holds;
+            holds = subst (λ (h : List Cell). heard_stands see plugin h (goes.lists (suc j)).mark) (here.met ∙ first-of) holds;
             told = (let a = own.mark in let b = written-cut in omega arith);
             reach = reached;
             within = (let a = falls in omega (arith, ap (λ (l : List Cell). length l) prefix.1, length-append (state.stages j).given prefix.0));
@@ -360,9 +361,9 @@ module _ {S K P : Type 0} (see : Seeing S K P)
             ]
 
   -- the rules are those of the plugins that went in
-  pub rules-all : (j : ℕ) (rules : List PluginRule) (rest : List (StagePart S K P)) (made : List P) → AreTakenFrom see rest made → length made ≡ length rules → j + length made ≡ begun.plan.plugins
+  pub rules-all : (j : ℕ) (rules : List PluginRule) (rest : List (StagePart S K P)) (made : List (Heard P)) → AreTakenFrom see rest made → length made ≡ length rules → j + length made ≡ begun.plan.plugins
       → ((i : ℕ) (d : StagePart S K P) → i < length made → slice_index_or rest i d ≡ goes.part (suc (j + i)))
-      → ((i : ℕ) → i < length made → rule_behind begun.rules (j + i) ≡ rule_behind rules i) → map see.rule made ≡ rules
+      → ((i : ℕ) → i < length made → rule_behind begun.rules (j + i) ≡ rule_behind rules i) → map (heard_rule see) made ≡ rules
   rules-all j [] rest [] taken long number same are = refl
   rules-all j (r ∷ rules) rest [] taken long number same are = absurd (omega arith)
   rules-all j [] rest (plugin ∷ made) taken long number same are = absurd (omega arith)
@@ -370,7 +371,7 @@ module _ {S K P : Type 0} (see : Seeing S K P)
   rules-all j (r ∷ rules) (part ∷ rest) (plugin ∷ made) taken long number same are =
       let lt : j < begun.plan.plugins = omega arith in
       let is : part ≡ goes.part (suc j) = same 0 part (omega arith) ∙ ap (λ n. goes.part (suc n)) (omega arith) in
-      let head : see.rule plugin ≡ r = taken.0.same_rule ∙ (ap (λ p. rule_of see p) is ∙ ((at-plugin j lt).rule_is ∙ (ap (rule_behind begun.rules) (omega arith) ∙ are 0 (omega arith)))) in
-      let tail : map see.rule made ≡ rules = rules-all (suc j) rules rest made taken.1 (omega arith) (omega arith) (λ i d below. same (suc i) d (omega arith) ∙ ap (λ n. goes.part (suc n)) (omega arith))
+      let head : heard_rule see plugin ≡ r = taken.0.same_rule ∙ (ap (λ p. rule_of see p) is ∙ ((at-plugin j lt).rule_is ∙ (ap (rule_behind begun.rules) (omega arith) ∙ are 0 (omega arith)))) in
+      let tail : map (heard_rule see) made ≡ rules = rules-all (suc j) rules rest made taken.1 (omega arith) (omega arith) (λ i d below. same (suc i) d (omega arith) ∙ ap (λ n. goes.part (suc n)) (omega arith))
       (λ i below. ap (rule_behind begun.rules) (omega arith) ∙ are (suc i) (omega arith)) in
       λ i. head i ∷ tail i

@@ -8,7 +8,8 @@ use Rattle.chain_core.specs.declared.core_plan.CorePlan.{CorePlan}
 use Rattle.chain_core.specs.Machine.{ChainState, progress_of_stages}
 use Rattle.chain_core.specs.ChainRun.{state_after}
 use Rattle.chain_core.specs.Close.{closed_of}
-use Rattle.stage_run.specs.Seeing.{Seeing}
+use Rattle.plugin_trait.specs.declared.heard.Heard.{Heard}
+use Rattle.stage_run.specs.Seeing.{Seeing, heard_rule}
 use Rattle.stage_run.specs.declared.input_part.InputPart.{InputPart}
 use Rattle.stage_run.specs.declared.output_part.OutputPart.{OutputPart}
 use Rattle.stage_run.specs.declared.stage_part.StagePart.{StagePart}
@@ -76,7 +77,7 @@ module _ {S K P : Type 0} (see : Seeing S K P) where
   are-stages begun (first ∷ rest) goes = kinds-row begun (first ∷ rest) goes first rest refl
 
   -- how many plugins come back
-  taken-length : (rest : List (StagePart S K P)) (made : List P) → AreTakenFrom see rest made → length rest ≡ length made + 1
+  taken-length : (rest : List (StagePart S K P)) (made : List (Heard P)) → AreTakenFrom see rest made → length rest ≡ length made + 1
   taken-length [] [] taken = absurd taken
   taken-length [] (plugin ∷ made) taken = absurd taken
   taken-length (part ∷ []) [] taken = refl
@@ -86,7 +87,7 @@ module _ {S K P : Type 0} (see : Seeing S K P) where
   -- ---- what the run comes to
 
   module _ (laws : MachineLaws) where
-    pub run-of : (from made_from : InputPart S) (stuffing : Stuffing) (plugins made : List P) (to made_to : OutputPart K) (plan : CorePlan) (closed : Closed) (parts : List (StagePart S K P))
+    pub run-of : (from made_from : InputPart S) (stuffing : Stuffing) (plugins made : List (Heard P)) (to made_to : OutputPart K) (plan : CorePlan) (closed : Closed) (parts : List (StagePart S K P))
         → HasClosed see (began_with see from stuffing plugins to plan) parts closed
         → GaveBack see parts made_from made made_to
         → RunOf see from made_from stuffing plugins made to made_to plan closed
@@ -109,7 +110,7 @@ module _ {S K P : Type 0} (see : Seeing S K P) where
         let at = at-close see laws begun parts goes over chosen.list gives in
         let same : (i : ℕ) (d : StagePart S K P) → i < length made → slice_index_or rest i d ≡ goes.part (suc (0 + i)) =
         λ i d lt. rest-is begun parts goes first rest row i d (let a = taken-length rest made taken in omega arith) ∙ ap (λ n. goes.part (suc n)) (let e : i ≡ 0 + i = omega arith in e) in
-        let rules-length : length (map see.rule plugins) ≡ plan.plugins = goes.lawful_run.rules_are in
+        let rules-length : length (map (heard_rule see) plugins) ≡ plan.plugins = goes.lawful_run.rules_are in
         let done : RunOf see from made_from stuffing plugins made to made_to plan (closed_of plan (progress_of_stages state)) = record {
           list = chosen.list;
           is_list = is-list see begun goes.lawful_run laws parts goes.visits goes.part goes.lists by chosen.list gives;
@@ -125,7 +126,7 @@ module _ {S K P : Type 0} (see : Seeing S K P) where
           input_gave = made-input see laws begun parts goes over chosen.list gives;
           met = met-all see laws begun parts goes over chosen.list gives 0 rest made taken (omega arith) same;
           memory = wants-of see laws begun parts goes over chosen.list gives;
-          rules = rules-all see laws begun parts goes over 0 (map see.rule plugins) rest made taken (many ∙ sym rules-length) (omega arith) same
-              (λ i lt. ap (rule_behind (map see.rule plugins)) (let e : 0 + i ≡ i = omega arith in e));
+          rules = rules-all see laws begun parts goes over 0 (map (heard_rule see) plugins) rest made taken (many ∙ sym rules-length) (omega arith) same
+              (λ i lt. ap (rule_behind (map (heard_rule see) plugins)) (let e : 0 + i ≡ i = omega arith in e));
         } in
         subst (λ (c : Closed). RunOf see from made_from stuffing plugins made to made_to plan c) (sym closed-is) done

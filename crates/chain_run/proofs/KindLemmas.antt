@@ -93,7 +93,7 @@ module _ {S K P : Type 0} (see : Seeing S K P) where
   wants-more (Plugin old) (Input new) less more kind same le wants = cc
   wants-more (Plugin old) (Output new) less more kind same le wants = cc
   wants-more (Plugin old) (Plugin new) less more kind same le wants =
-      λ has. wants (steady_less (see.steady old.plugin) more less le (subst (λ (s : Option ℕ). IsSteadyFor s more) same has))
+      λ has. wants (steady_less (see.steady old.heard.plugin) more less le (subst (λ (s : Option ℕ). IsSteadyFor s more) same has))
 
   -- ---- streams
 

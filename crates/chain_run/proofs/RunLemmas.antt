@@ -11,7 +11,8 @@ use Rattle.chain_core.specs.Machine.{ChainState, progress_of_stages}
 use Rattle.chain_core.specs.ChainRun.{state_after, AllEnded}
 use Rattle.chain_core.specs.Close.{closed_of}
 use Rattle.chain_core.specs.CoreNumbers.{CoreNumbers, IsLawfulPlan, StandsFor, progress_of_core}
-use Rattle.stage_run.specs.Seeing.{Seeing}
+use Rattle.plugin_trait.specs.declared.heard.Heard.{Heard}
+use Rattle.stage_run.specs.Seeing.{Seeing, heard_stands}
 use Rattle.stage_run.specs.declared.input_part.InputPart.{InputPart}
 use Rattle.stage_run.specs.declared.output_part.OutputPart.{OutputPart}
 use Rattle.stage_run.specs.declared.stage_part.StagePart.{StagePart}
@@ -31,9 +32,9 @@ use Rattle.chain_run.proofs.ProgressLemmas.{as-progress}
 
 module _ {S K P : Type 0} (see : Seeing S K P) where
   -- the stages in a row, of which nothing was done
-  pub record Laid (from : InputPart S) (stuffing : Stuffing) (plugins : List P) (to : OutputPart K) (plan : CorePlan) (parts : List (StagePart S K P)) : Type 0 where
+  pub record Laid (from : InputPart S) (stuffing : Stuffing) (plugins : List (Heard P)) (to : OutputPart K) (plan : CorePlan) (parts : List (StagePart S K P)) : Type 0 where
     pub lawful : IsLawfulPlan plan
-    pub fresh : AreFresh see.stands plugins
+    pub fresh : AreFresh (heard_stands see) plugins
     pub number : plan.plugins ≡ length plugins
     pub opens : (plugin : P) (history : List Cell) (mark : ℕ) → see.stands plugin history mark → (see.rule plugin).agrees [] ≡ false
     pub first : StagePart S K P
@@ -50,7 +51,7 @@ module _ {S K P : Type 0} (see : Seeing S K P) where
     pub out_stream : stream_kind out ≡ sink_kind to
     pub out_stands : (source : SourceView) (sink : SinkView) (mark : ℕ) → IsSinkOf see.sink to sink → PartStands see out (fresh_lists source sink mark) None
 
-  pub laid-row : (from : InputPart S) (stuffing : Stuffing) (plugins : List P) (to : OutputPart K) (plan : CorePlan) (parts : List (StagePart S K P))
+  pub laid-row : (from : InputPart S) (stuffing : Stuffing) (plugins : List (Heard P)) (to : OutputPart K) (plan : CorePlan) (parts : List (StagePart S K P))
       → Laid from stuffing plugins to plan parts → IsNewRow see (began_with see from stuffing plugins to plan) parts
   laid-row from stuffing plugins to plan parts laid =
       subst (λ (l : List (StagePart S K P)). IsNewRow see (began_with see from stuffing plugins to plan) l) (sym laid.row)

@@ -17,7 +17,8 @@ use Rattle.chain_core.specs.Machine.{start, progress_of_stages}
 use Rattle.chain_core.specs.ChainRun.{state_after, took}
 use Rattle.chain_core.specs.CoreNumbers.{CoreNumbers, IsLawfulPlan, StandsFor}
 use Rattle.chain_core.specs.Keeps.{StageKeeps}
-use Rattle.stage_run.specs.Seeing.{Seeing}
+use Rattle.plugin_trait.specs.declared.heard.Heard.{Heard}
+use Rattle.stage_run.specs.Seeing.{Seeing, heard_rule, heard_stands, heard_steady}
 use Rattle.stage_run.specs.declared.input_part.InputPart.{InputPart}
 use Rattle.stage_run.specs.declared.input_part.InputPart.TheVariants as input
 use Rattle.stage_run.specs.declared.output_part.OutputPart.{OutputPart}
@@ -79,7 +80,7 @@ module _ (rules : List PluginRule) (input : StageList) (plugins : ℕ) where
       })
 
 module _ {S K P : Type 0} (see : Seeing S K P) where
-  pub made-length : (made : List (StagePart S K P)) (plugins : List P) → AreMadeOf see made plugins → length made ≡ length plugins
+  pub made-length : (made : List (StagePart S K P)) (plugins : List (Heard P)) → AreMadeOf see made plugins → length made ≡ length plugins
   made-length [] [] are = refl
   made-length [] (plugin ∷ plugins) are = absurd are
   made-length (part ∷ made) [] are = absurd are
@@ -87,13 +88,13 @@ module _ {S K P : Type 0} (see : Seeing S K P) where
 
   -- the stage at a place, its plugin and its rule
   pub record MadeAt (part : StagePart S K P) (r : PluginRule) (room : Option ℕ) : Type 0 where
-    pub plugin : P
+    pub plugin : Heard P
     pub is : MadeOf see part plugin
-    pub rule_is : r ≡ see.rule plugin
-    pub room_is : room ≡ see.steady plugin
-    pub fresh : see.stands plugin [] 0
+    pub rule_is : r ≡ heard_rule see plugin
+    pub room_is : room ≡ heard_steady see plugin
+    pub fresh : heard_stands see plugin [] 0
 
-  made-at : (made rest : List (StagePart S K P)) (plugins : List P) (j : ℕ) (d : StagePart S K P) → AreMadeOf see made plugins → AreFresh see.stands plugins → j < length plugins → MadeAt (slice_index_or (made ++ rest) j d) (rule_behind (map see.rule plugins) j) (slice_index_or (map see.steady plugins) j None)
+  made-at : (made rest : List (StagePart S K P)) (plugins : List (Heard P)) (j : ℕ) (d : StagePart S K P) → AreMadeOf see made plugins → AreFresh (heard_stands see) plugins → j < length plugins → MadeAt (slice_index_or (made ++ rest) j d) (rule_behind (map (heard_rule see) plugins) j) (slice_index_or (map (heard_steady see) plugins) j None)
   made-at [] rest [] j d are fresh lt = absurd (omega arith)
   made-at [] rest (plugin ∷ plugins) j d are fresh lt = absurd are
   made-at (part ∷ made) rest [] j d are fresh lt = absurd are
@@ -101,7 +102,7 @@ module _ {S K P : Type 0} (see : Seeing S K P) where
   made-at (part ∷ made) rest (plugin ∷ plugins) (suc j) d are fresh lt = made-at made rest plugins j d are.1 fresh.1 (omega arith)
 
   module _ (plan : CorePlan) (lawful : IsLawfulPlan plan)
-      (from : InputPart S) (stuffing : Stuffing) (to : OutputPart K) (plugins : List P) (fresh : AreFresh see.stands plugins) (number : plan.plugins ≡ length plugins)
+      (from : InputPart S) (stuffing : Stuffing) (to : OutputPart K) (plugins : List (Heard P)) (fresh : AreFresh (heard_stands see) plugins) (number : plan.plugins ≡ length plugins)
       (opens : (plugin : P) (history : List Cell) (mark : ℕ) → see.stands plugin history mark → (see.rule plugin).agrees [] ≡ false)
       (first out : StagePart S K P) (made : List (StagePart S K P)) (are : AreMadeOf see made plugins)
       (in_kind : kind_of first ≡ an_input) (in_stream : stream_kind first ≡ source_kind from) (in_stuffing : stuffing_in first ≡ Some (stuffing_of stuffing))
@@ -110,7 +111,7 @@ module _ {S K P : Type 0} (see : Seeing S K P) where
       (out_kind : kind_of out ≡ an_output) (out_stream : stream_kind out ≡ sink_kind to)
       (out_stands : (source : SourceView) (sink : SinkView) (mark : ℕ) → IsSinkOf see.sink to sink → PartStands see out (fresh_lists source sink mark) None) where
     abbrev pub began : RunStart S K
-    began = record { from = from; to = to; stuffing = stuffing_of stuffing; rules = map see.rule plugins; rooms = map see.steady plugins; plan = plan }
+    began = record { from = from; to = to; stuffing = stuffing_of stuffing; rules = map (heard_rule see) plugins; rooms = map (heard_steady see) plugins; plan = plan }
 
     abbrev parts : List (StagePart S K P)
     parts = first ∷ (made ++ out ∷ [])
@@ -177,9 +178,9 @@ module _ {S K P : Type 0} (see : Seeing S K P) where
     new-row = record {
       run = record {
         lawful = lawful;
-        rules_are = length-map plugins see.rule ∙ sym number;
-        rooms_are = length-map plugins see.steady ∙ sym number;
-        agree_late = rules-open see.rule see.stands plugins fresh opens;
+        rules_are = length-map plugins (heard_rule see) ∙ sym number;
+        rooms_are = length-map plugins (heard_steady see) ∙ sym number;
+        agree_late = rules-open (heard_rule see) (heard_stands see) plugins fresh (λ heard history mark stands. opens heard.plugin history mark stands.holds);
       };
       stages_are = parts-length;
       part = part;

@@ -3,7 +3,8 @@ use Rattle.std.specs.Prelude.{◌≡◌, ℕ, List, [], ◌∷◌, ◌++◌, Opt
 use Rattle.ts_outside.specs.Source.{SourceView}
 use Rattle.ts_outside.specs.Sink.{SinkView}
 use Rattle.chain_core.specs.declared.stage_end.StageEnd.{StageEnd}
-use Rattle.stage_run.specs.Seeing.{Seeing}
+use Rattle.plugin_trait.specs.declared.heard.Heard.{Heard}
+use Rattle.stage_run.specs.Seeing.{Seeing, heard_rule, heard_stands, heard_steady}
 use Rattle.stage_run.specs.declared.stage_part.StagePart.{StagePart}
 use Rattle.stage_run.specs.PartLists.{PartLists, fresh_lists}
 use Rattle.stage_run.specs.PartStands.{PartStands, PartGives, kind_of, rule_of, steady_of, stuffing_in, source_kind, sink_kind, stream_kind, an_input, a_plugin, an_output}
@@ -13,28 +14,28 @@ use Rattle.stage_run.specs.declared.output_part.OutputPart.{OutputPart}
 use Rattle.chain_model.specs.Stuffed as model
 
 module _ {S K P : Type 0} (see : Seeing S K P) where
-  -- the stage of a plugin that has met nothing
-  pub record MadeOf (part : StagePart S K P) (plugin : P) : Type 0 where
+  -- the stage of a plugin that has met nothing and has no lines
+  pub record MadeOf (part : StagePart S K P) (plugin : Heard P) : Type 0 where
     pub kind : kind_of part ≡ a_plugin
-    pub same_rule : rule_of see part ≡ see.rule plugin
-    pub same_steady : steady_of see part ≡ see.steady plugin
-    pub fresh : (source : SourceView) (sink : SinkView) (mark : ℕ) → see.stands plugin [] mark
+    pub same_rule : rule_of see part ≡ heard_rule see plugin
+    pub same_steady : steady_of see part ≡ heard_steady see plugin
+    pub fresh : (source : SourceView) (sink : SinkView) (mark : ℕ) → heard_stands see plugin [] mark
         → PartStands see part (fresh_lists source sink mark) None
 
   -- each is the stage of the plugin at its place
-  abbrev pub AreMadeOf : List (StagePart S K P) → List P → Type 0
+  abbrev pub AreMadeOf : List (StagePart S K P) → List (Heard P) → Type 0
   AreMadeOf [] [] = Unit {0}
   AreMadeOf (part ∷ parts) (plugin ∷ plugins) = MadeOf part plugin × AreMadeOf parts plugins
   AreMadeOf _ _ = ⊥
 
-  -- the plugin that a stage returns
-  pub record TakenFrom (part : StagePart S K P) (plugin : P) : Type 0 where
-    pub same_rule : see.rule plugin ≡ rule_of see part
+  -- the plugin that a stage returns, with its lines
+  pub record TakenFrom (part : StagePart S K P) (plugin : Heard P) : Type 0 where
+    pub same_rule : heard_rule see plugin ≡ rule_of see part
     pub holds : (lists : PartLists) (told : Option StageEnd) → PartStands see part lists told
-        → see.stands plugin lists.met lists.mark
+        → heard_stands see plugin lists.met lists.mark
 
   -- each is the plugin that the stage at its place returns; after them stands the output's stage
-  abbrev pub AreTakenFrom : List (StagePart S K P) → List P → Type 0
+  abbrev pub AreTakenFrom : List (StagePart S K P) → List (Heard P) → Type 0
   AreTakenFrom (part ∷ parts) (plugin ∷ plugins) = TakenFrom part plugin × AreTakenFrom parts plugins
   AreTakenFrom (output ∷ []) [] = Unit {0}
   AreTakenFrom _ _ = ⊥
@@ -52,7 +53,7 @@ module _ {S K P : Type 0} (see : Seeing S K P) where
 
   -- the stages of a chain returned the input, the plugins and the output: each is what its stage leaves by whatever
   -- the stage stood for
-  pub record GaveBack (parts : List (StagePart S K P)) (input : InputPart S) (plugins : List P)
+  pub record GaveBack (parts : List (StagePart S K P)) (input : InputPart S) (plugins : List (Heard P))
       (output : OutputPart K) : Type 0 where
     pub first : StagePart S K P
     pub rest : List (StagePart S K P)

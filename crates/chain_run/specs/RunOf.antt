@@ -16,7 +16,8 @@ use Rattle.chain_model.specs.Written.{written}
 use Rattle.chain_core.specs.declared.closed.Closed.{Closed}
 use Rattle.chain_core.specs.declared.core_plan.CorePlan.{CorePlan}
 use Rattle.chain_core.specs.Stages.{stages_of}
-use Rattle.stage_run.specs.Seeing.{Seeing}
+use Rattle.plugin_trait.specs.declared.heard.Heard.{Heard}
+use Rattle.stage_run.specs.Seeing.{Seeing, heard_rule, heard_stands, heard_steady}
 use Rattle.stage_run.specs.declared.input_part.InputPart.{InputPart}
 use Rattle.stage_run.specs.declared.input_part.InputPart.TheVariants.{Stream, Nulls, Generated}
 use Rattle.stage_run.specs.declared.output_part.OutputPart.{OutputPart}
@@ -67,26 +68,26 @@ pub record Gave (plugins buffer cut : ℕ) (gave : ℕ → ℕ) : Type 0 where
 
 -- a run that was closed
 pub record RunOf {S K P : Type 0} (see : Seeing S K P)
-    (from made_from : InputPart S) (stuffing : Stuffing) (plugins made : List P) (to made_to : OutputPart K)
+    (from made_from : InputPart S) (stuffing : Stuffing) (plugins made : List (Heard P)) (to made_to : OutputPart K)
     (plan : CorePlan) (closed : Closed) : Type 0 where
   -- the list of the input with its stuffing: that of the bytes of its source, as far as they are known
   pub list : StageList
   pub is_list : IsListOf see.source from (stuffing_of stuffing) list
-  pub closes : ClosesRight (map see.rule plugins) list (stages_of plan.users) closed
+  pub closes : ClosesRight (map (heard_rule see) plugins) list (stages_of plan.users) closed
   pub input : LeftInput see.source (stuffing_of stuffing) plan.buffer from made_from closed.cut closed.cause
-  pub output : LeftOutput see.sink to made_to (end_list (map see.rule plugins) list).cells
+  pub output : LeftOutput see.sink to made_to (end_list (map (heard_rule see) plugins) list).cells
       closed.cut closed.cause
   -- each stage gave the first cells of its list, and each plugin met as many of the stage before it as its own gave
   pub gave : ℕ → ℕ
   pub gave_to : Gave plan.plugins plan.buffer closed.cut gave
   pub input_gave : gave 0 ≤ length list.cells
-  pub met : AllMetFirst see.stands (map see.rule plugins) list gave closed.cut 0 made
+  pub met : AllMetFirst (heard_stands see) (map (heard_rule see) plugins) list gave closed.cut 0 made
   -- only a plugin ran out of memory, and none that made room for as many positions as the buffer has
-  pub memory : (k : ℕ) → closed.cause ≡ NoMemory k → WantsMemory (map see.steady plugins) plan.buffer k
-  pub rules : map see.rule made ≡ map see.rule plugins
+  pub memory : (k : ℕ) → closed.cause ≡ NoMemory k → WantsMemory (map (heard_steady see) plugins) plan.buffer k
+  pub rules : map (heard_rule see) made ≡ map (heard_rule see) plugins
 
 -- where there was no memory for a run, nothing was read, met or written
-pub record NeverBegan {S K P : Type 0} (from made_from : InputPart S) (plugins made : List P)
+pub record NeverBegan {S K P : Type 0} (from made_from : InputPart S) (plugins made : List (Heard P))
     (to made_to : OutputPart K) : Type 0 where
   pub input : made_from ≡ from
   pub plugins_same : made ≡ plugins

@@ -6,7 +6,8 @@ use Rattle.chain_model.specs.Stuffed as model
 use Rattle.chain_core.specs.declared.core_plan.CorePlan.{CorePlan}
 use Rattle.chain_core.specs.declared.stage_word.StageWord.{StageWord}
 use Rattle.chain_core.specs.Machine.{ChainState}
-use Rattle.stage_run.specs.Seeing.{Seeing}
+use Rattle.plugin_trait.specs.declared.heard.Heard.{Heard}
+use Rattle.stage_run.specs.Seeing.{Seeing, heard_rule, heard_steady}
 use Rattle.stage_run.specs.declared.input_part.InputPart.{InputPart}
 use Rattle.stage_run.specs.declared.output_part.OutputPart.{OutputPart}
 use Rattle.stage_run.specs.declared.stuffing.Stuffing.{Stuffing}
@@ -31,13 +32,13 @@ pub record RunStart (S K : Type 0) : Type 0 where
   pub plan : CorePlan
 
 -- the chain that these ends and plugins begin
-abbrev pub began_with : {S K P : Type 0} → Seeing S K P → InputPart S → Stuffing → List P → OutputPart K
+abbrev pub began_with : {S K P : Type 0} → Seeing S K P → InputPart S → Stuffing → List (Heard P) → OutputPart K
     → CorePlan → RunStart S K
 began_with see from stuffing plugins to plan = record {
   from = from;
   to = to;
   stuffing = stuffing_of stuffing;
-  rules = map see.rule plugins;
-  rooms = map see.steady plugins;
+  rules = map (heard_rule see) plugins;
+  rooms = map (heard_steady see) plugins;
   plan = plan;
 }

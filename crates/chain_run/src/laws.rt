@@ -2,6 +2,7 @@
 ghost use Rattle.std.specs.Prelude.{List};
 ghost use Rattle.chain_core.specs.declared.closed.Closed.{Closed};
 ghost use Rattle.chain_core.specs.declared.core_plan.CorePlan.{CorePlan};
+ghost use Rattle.plugin_trait.specs.declared.heard.Heard.{Heard};
 ghost use Rattle.stage_run.specs.Seeing.{seeing};
 ghost use Rattle.stage_run.specs.declared.input_part.InputPart.{InputPart};
 ghost use Rattle.stage_run.specs.declared.output_part.OutputPart.{OutputPart};
@@ -35,7 +36,7 @@ pub fn any_run<S: Source, K: Sink, P: Plugin>()
     ensures stages { (begun : RunStart S K) (parts : List (StagePart S K P))
         → let see = seeing S.seen K.seen P.rule P.stands_for P.steady in
         Ran see begun parts → AreStages see parts }
-    ensures ends { (from made_from : InputPart S) (stuffing : Stuffing) (plugins made : List P)
+    ensures ends { (from made_from : InputPart S) (stuffing : Stuffing) (plugins made : List (Heard P))
         (to made_to : OutputPart K) (plan : CorePlan) (closed : Closed) (parts : List (StagePart S K P))
         → let see = seeing S.seen K.seen P.rule P.stands_for P.steady in
         let begun = began_with see from stuffing plugins to plan in

@@ -1,5 +1,7 @@
 //! The stages of a chain from its parts, and the parts from its stages.
 ghost use Rattle.std.specs.Prelude.{◌≡◌, ◌+◌, ◌≤◌, ◌<◌, ◌++◌, ◌∷◌, [], ℕ, List, length, vec_len, vec_capacity};
+ghost use Rattle.plugin_trait.specs.HeardStands.{HeardStands};
+ghost use Rattle.plugin_trait.specs.declared.heard.Heard.{Heard};
 ghost use Rattle.stage_run.specs.Seeing.{seeing};
 ghost use Rattle.chain_core.specs.declared.core_plan.CorePlan.{CorePlan};
 ghost use Rattle.chain_core.specs.CoreNumbers.{IsLawfulPlan};
@@ -10,17 +12,17 @@ ghost use Rattle.chain_run.specs.Runs.{began_with};
 ghost use Rattle.chain_run.specs.NewRow.{IsNewRow};
 ghost use Rattle.chain_run.specs.Parts.{AreMadeOf, AreTakenFrom, ArePluginsAndOutput, AreStages, GaveBack};
 
-use plugin_trait::Plugin;
+use plugin_trait::{Heard, Plugin};
 use stage_run::{InputPart, IoBuffer, OutputPart, StagePart, Stuffing};
 use ts_outside::{Sink, Source};
 
 /// Appends the stages of the plugins to the stages, which have room for them.
 pub(crate) fn add_plugins<S: Source, K: Sink, P: Plugin>(
     parts: &mut Vec<StagePart<S, K, P>>,
-    plugins: &mut Vec<P>,
+    plugins: &mut Vec<Heard<P>>,
 )
     requires room { vec_len parts.old + vec_len plugins.old ≤ vec_capacity parts.old }
-    requires fresh { AreFresh P.stands_for plugins.old.items }
+    requires fresh { AreFresh (HeardStands P.rule P.stands_for) plugins.old.items }
     ensures made { (made : List (StagePart S K P)) × (parts.new.items ≡ parts.old.items ++ made)
         × AreMadeOf (seeing S.seen K.seen P.rule P.stands_for P.steady) made plugins.old.items }
     ensures none_left { plugins.new.items ≡ [] }
@@ -47,12 +49,12 @@ pub fn lay_stages<S: Source, K: Sink, P: Plugin>(
     rooms: StageRooms<S, K, P>,
     input: InputPart<S>,
     stuffing: Stuffing,
-    plugins: &mut Vec<P>,
+    plugins: &mut Vec<Heard<P>>,
     output: OutputPart<K>,
 ) -> Vec<StagePart<S, K, P>>
     requires every { 1 ≤ stuffing.every }
     requires unused { IsUnused input }
-    requires fresh { AreFresh P.stands_for plugins.old.items }
+    requires fresh { AreFresh (HeardStands P.rule P.stands_for) plugins.old.items }
     requires none { rooms.row.items ≡ [] }
     requires room { vec_len plugins.old + 2 ≤ vec_capacity rooms.row }
     ensures new { (plan : CorePlan) → IsLawfulPlan plan → plan.plugins ≡ vec_len plugins.old
@@ -76,8 +78,8 @@ pub fn lay_stages<S: Source, K: Sink, P: Plugin>(
 pub struct GivenBack<S, K, P> {
     /// The input's part.
     pub input: InputPart<S>,
-    /// The plugins in their order.
-    pub plugins: Vec<P>,
+    /// The plugins in their order, each with its lines.
+    pub plugins: Vec<Heard<P>>,
     /// The output's part.
     pub output: OutputPart<K>,
 }
@@ -85,11 +87,11 @@ pub struct GivenBack<S, K, P> {
 /// Moves the plugins back from the front of the stages, until one stage is left.
 pub(crate) fn take_plugins<S: Source, K: Sink, P: Plugin>(
     parts: &mut Vec<StagePart<S, K, P>>,
-    plugins: &mut Vec<P>,
+    plugins: &mut Vec<Heard<P>>,
 )
     requires room { vec_len plugins.old + vec_len parts.old ≤ vec_capacity plugins.old + 1 }
     requires kinds { ArePluginsAndOutput (seeing S.seen K.seen P.rule P.stands_for P.steady) parts.old.items }
-    ensures taken { (made : List P) × (plugins.new.items ≡ plugins.old.items ++ made)
+    ensures taken { (made : List (Heard P)) × (plugins.new.items ≡ plugins.old.items ++ made)
         × AreTakenFrom (seeing S.seen K.seen P.rule P.stands_for P.steady) parts.old.items made }
     ensures one_left { (first : List (StagePart S K P)) × (parts.old.items ≡ first ++ parts.new.items) }
     ensures one { vec_len parts.new ≡ 1 }
@@ -107,7 +109,7 @@ pub(crate) fn take_plugins<S: Source, K: Sink, P: Plugin>(
 /// The plugins go into the row that is passed for them, which has room. It allocates nothing.
 pub fn take_apart<S: Source, K: Sink, P: Plugin>(
     mut parts: Vec<StagePart<S, K, P>>,
-    mut plugins: Vec<P>,
+    mut plugins: Vec<Heard<P>>,
 ) -> GivenBack<S, K, P>
     requires stages { AreStages (seeing S.seen K.seen P.rule P.stands_for P.steady) parts.items }
     requires none { plugins.items ≡ [] }

@@ -4,6 +4,8 @@ ghost use Rattle.std.specs.List.{All};
 ghost use Rattle.chain_core.specs.declared.core_plan.CorePlan.{CorePlan};
 ghost use Rattle.chain_core.specs.CoreNumbers.{IsLawfulPlan, StandsFor};
 ghost use Rattle.chain_core.specs.Machine.{start};
+ghost use Rattle.plugin_trait.specs.HeardStands.{HeardStands};
+ghost use Rattle.plugin_trait.specs.declared.heard.Heard.{Heard};
 ghost use Rattle.stage_run.specs.Seeing.{seeing};
 ghost use Rattle.stage_run.specs.declared.input_part.InputPart.{InputPart};
 ghost use Rattle.stage_run.specs.declared.output_part.OutputPart.{OutputPart};
@@ -19,7 +21,7 @@ use crate::parts::{GivenBack, StageRooms, lay_stages, take_apart};
 use crate::serial_chain::SerialChain;
 use crate::{RunEnd, Stages};
 use chain_core::{Core, CorePlan};
-use plugin_trait::Plugin;
+use plugin_trait::{Heard, Plugin};
 use stage_run::{InputPart, IoBuffer, OutputPart, Stuffing};
 use std::alloc::{AllocError, Global};
 use ts_outside::{Gate, Sink, Source};
@@ -61,14 +63,14 @@ fn lay<S: Source, K: Sink, P: Plugin>(
     memory: SerialMemory<S, K, P>,
     input: InputPart<S>,
     stuffing: Stuffing,
-    plugins: &mut Vec<P>,
+    plugins: &mut Vec<Heard<P>>,
     output: OutputPart<K>,
 ) -> SerialChain<S, K, P>
     requires every { 1 ≤ stuffing.every }
     requires unused { IsUnused input }
     requires lawful { IsLawfulPlan memory.core.plan }
     requires plugins { memory.core.plan.plugins ≡ vec_len plugins.old }
-    requires fresh { AreFresh P.stands_for plugins.old.items }
+    requires fresh { AreFresh (HeardStands P.rule P.stands_for) plugins.old.items }
     requires numbers { StandsFor memory.core start }
     requires slots { vec_len memory.cells ≡ memory.core.plan.buffer }
     requires none { memory.rooms.row.items ≡ [] }
@@ -87,7 +89,7 @@ fn lay<S: Source, K: Sink, P: Plugin>(
 /// Runs a chain until all its stages have ended, and takes it apart. The plugins go into the row, which has room for them.
 fn run_laid<S: Source, K: Sink, P: Plugin, G: Gate>(
     mut chain: SerialChain<S, K, P>,
-    plugins: Vec<P>,
+    plugins: Vec<Heard<P>>,
     sizes: &[u32],
     gate: &G,
 ) -> RunEnd<S, K, P>
@@ -96,7 +98,7 @@ fn run_laid<S: Source, K: Sink, P: Plugin, G: Gate>(
     requires room { length chain.parts.items ≤ vec_capacity plugins + 2 }
     requires sizes { All (λ size. 1 ≤ size) sizes.now }
     requires some_size { 0 < length sizes.now }
-    ensures runs { (from : InputPart S) (stuffing : Stuffing) (met_none : List P) (to : OutputPart K)
+    ensures runs { (from : InputPart S) (stuffing : Stuffing) (met_none : List (Heard P)) (to : OutputPart K)
         (plan : CorePlan)
         → let see = seeing S.seen K.seen P.rule P.stands_for P.steady in
         IsRunning see (began_with see from stuffing met_none to plan)
@@ -144,7 +146,7 @@ pub fn run_serial<S: Source, K: Sink, P: Plugin, G: Gate>(
     requires plugins { plan.now.plugins ≡ vec_len stages.plugins }
     requires sizes { All (λ size. 1 ≤ size) sizes.now }
     requires some_size { 0 < length sizes.now }
-    requires fresh { AreFresh P.stands_for stages.plugins.items }
+    requires fresh { AreFresh (HeardStands P.rule P.stands_for) stages.plugins.items }
     ensures closed { IfOk result.closed (RunOf (seeing S.seen K.seen P.rule P.stands_for P.steady)
         stages.input result.input stages.stuffing stages.plugins.items result.plugins.items
         stages.output result.output plan.now) }

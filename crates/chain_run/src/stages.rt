@@ -1,5 +1,6 @@
 //! The parts of a chain before its run.
 
+use plugin_trait::Heard;
 use stage_run::{InputPart, OutputPart, Stuffing};
 
 /// The stages of a chain before it runs.
@@ -8,8 +9,8 @@ pub struct Stages<S, K, P> {
     pub input: InputPart<S>,
     /// The null packets that the input puts in.
     pub stuffing: Stuffing,
-    /// The plugins in their order. None has met a cell.
-    pub plugins: Vec<P>,
+    /// The plugins in their order. None has met a cell, and none has lines.
+    pub plugins: Vec<Heard<P>>,
     /// Where the packets go. Nothing was written to it.
     pub output: OutputPart<K>,
 }

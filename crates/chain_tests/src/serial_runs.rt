@@ -4,7 +4,7 @@ ghost use Rattle.std.specs.List.{All};
 ghost use Rattle.chain_core.specs.CoreNumbers.{IsLawfulPlan};
 
 use crate::compared::same;
-use crate::stops_at::StopsAt;
+use crate::stops_at::{StopsAt, stopping};
 use chain_core::{Cause, Closed, CorePlan, InputEnd, StageSet};
 use chain_run::{RunEnd, Stages, run_serial};
 use stage_run::{InputPart, OutputPart, Stuffing};
@@ -61,7 +61,7 @@ fn run(
     requires some_size { 1 ≤ length sizes.now }
 {
     let mut plugins = Vec::new(alloc);
-    plugins.push(StopsAt { position, alloc })?;
+    plugins.push(stopping(alloc, position))?;
     let mut desk = desk(alloc)?;
     let input: InputPart<MemorySource> = InputPart::Nulls(packets);
     let output: OutputPart<MemorySink> = OutputPart::Discard;

@@ -1,13 +1,14 @@
 //! Tests of the stages of a chain, each by itself.
 ghost use Rattle.std.specs.Prelude.{◌≡◌, ◌+◌, ◌<◌, ◌≤◌, [], None, IfOk, length, false};
+ghost use Rattle.plugin_trait.specs.HeardStands.{HeardStands};
 ghost use Rattle.stage_run.specs.Seeing.{seeing};
 ghost use Rattle.stage_run.specs.PartStands.{PartStands, MayWorkOnSome, kind_of, an_input, a_plugin, an_output};
 ghost use Rattle.stage_run.specs.Parts.{IsUnused};
 
 use crate::compared::same;
-use crate::stops_at::StopsAt;
+use crate::stops_at::{StopsAt, stopping};
 use chain_core::{InputEnd, News, StageEnd};
-use plugin_trait::Plugin;
+use plugin_trait::{Heard, Plugin};
 use stage_run::{InputPart, IoBuffer, OutputPart, StagePart, Stuffing, Work};
 use std::alloc::{AllocError, Global};
 use std::process::Abort;
@@ -108,8 +109,8 @@ fn output<S: Source, K: Sink, P: Plugin>(part: OutputPart<K>, room: IoBuffer) ->
 }
 
 /// A new plugin's stage, which may work.
-fn plugin<S: Source, K: Sink, P: Plugin>(plugin: P) -> StagePart<S, K, P>
-    requires fresh { P.stands_for plugin [] 0 }
+fn plugin<S: Source, K: Sink, P: Plugin>(plugin: Heard<P>) -> StagePart<S, K, P>
+    requires fresh { HeardStands P.rule P.stands_for plugin [] 0 }
     ensures may { MayWorkOnSome (PartStands (seeing S.seen K.seen P.rule P.stands_for P.steady) result) 0 0 }
     ensures kind { kind_of result ≡ a_plugin }
 {
@@ -415,8 +416,8 @@ fn inputs_give_as_their_rows_say(rt: HostRuntime) -> Result<(), Fail> {
 }
 
 /// Works on four cells with a plugin, and returns the plugin.
-fn edits<S: Source, K: Sink, P: Plugin>(stage: P, cells: &mut [Cell; 4]) -> (P, Work)
-    requires fresh { P.stands_for stage [] 0 }
+fn edits<S: Source, K: Sink, P: Plugin>(stage: Heard<P>, cells: &mut [Cell; 4]) -> (Heard<P>, Work)
+    requires fresh { HeardStands P.rule P.stands_for stage [] 0 }
 {
     let mut part: StagePart<S, K, P> = plugin(stage);
     let work = work(&mut part, 0, cells, None);
@@ -435,9 +436,11 @@ fn four() -> [Cell; 4] {
 
 /// Works on four cells with a plugin that stops at a position. Returns the position that it then has, and what was done.
 fn stops(alloc: Global, position: u64, cells: &mut [Cell; 4]) -> (u64, Did) {
-    let stops = StopsAt { position, alloc };
-    let (stops, work) = edits::<MemorySource, MemorySink, StopsAt>(stops, cells);
-    (stops.position, done_by(work))
+    let (stops, work) = edits::<MemorySource, MemorySink, StopsAt>(
+        stopping(alloc, position),
+        cells,
+    );
+    (stops.plugin.steps.position, done_by(work))
 }
 
 #[test]

@@ -1,6 +1,6 @@
 //! Prints what refused command lines of `tsp` are told, the words of each and the text; and then what is said of texts of tables that
 //! were not compiled, and of bytes that were not decompiled, what each row is about and the text. The texts were written by hand, and
-//! are the only statement of what is said.
+//! are the only statement of what is said. At the end stands what is said of each segment, of which tools/texts makes the texts of help.
 #![tactic(auto)]
 
 mod json_rows;
@@ -12,7 +12,8 @@ mod word_rows;
 
 use anyhow::Result;
 use explain_tables::{compile_text, decompile_text};
-use explain_words::{HelpTable, fault_text, general_options, tsp_segments, words_text};
+use explain_tsp::tsp_help;
+use explain_words::{SegmentRow, fault_text, words_text};
 use json_rows::{JsonRow, json_tables};
 use place_rows::{PlaceRow, USAGE, may_stand, place_rows};
 use section_rows::{SectionRow, section_tables};
@@ -38,11 +39,7 @@ fn words_of(rt: &HostRuntime, text: &str) -> Result<Vec<String>> {
 /// Prints what is said of a row.
 fn show_words(rt: &HostRuntime, row: &WordsRow) -> Result<()> {
     let words = words_of(rt, row.words)?;
-    let segments = tsp_segments(rt.alloc())?;
-    let table = HelpTable {
-        general: general_options(),
-        segments: segments.as_slice(),
-    };
+    let table = tsp_help(rt.alloc())?;
     let text = fault_text(rt.alloc(), &table, words.as_slice(), row.at, row.rule)?;
     print!(rt; "tsp {}\n{text}", row.words)?;
     Ok(())
@@ -113,6 +110,29 @@ fn show_texts(rt: &HostRuntime) -> Result<()> {
     Ok(())
 }
 
+/// Prints what is said of a segment.
+fn show_segment(rt: &HostRuntime, segment: &SegmentRow) -> Result<()> {
+    print!(rt;
+        "help of {} {}:\nusage: {}\n",
+        segment.first, segment.name, segment.usage
+    )?;
+    for option in &segment.options {
+        print!(rt; "    {}: {}\n", option.form.as_str(), option.meaning)?;
+    }
+    print!(rt; "rule: {}\n", segment.rule)?;
+    Ok(())
+}
+
+/// Prints what is said of all segments, of which the texts of help are made.
+fn show_help(rt: &HostRuntime) -> Result<()> {
+    let table = tsp_help(rt.alloc())?;
+    show_segment(rt, &table.general)?;
+    for segment in &table.segments {
+        show_segment(rt, segment)?;
+    }
+    Ok(())
+}
+
 fn main(rt: HostRuntime) -> Result<()> {
     for row in word_rows() {
         show_words(&rt, row)?;
@@ -124,5 +144,5 @@ fn main(rt: HostRuntime) -> Result<()> {
     for rows in section_tables() {
         show_sections(&rt, rows)?;
     }
-    Ok(())
+    show_help(&rt)
 }

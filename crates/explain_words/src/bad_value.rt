@@ -1,18 +1,17 @@
 //! What is said of the form of a value, and of one that does not fit.
 use crate::fits::{fits, wide};
 use crate::marked::put_word;
-use crate::option_row::OptionRow;
 use crate::piece::wrong_piece;
-use crate::sign::Sign;
-use crate::takes::Takes;
-use option_words::split_at_sign;
+use crate::shown_option::ShownOption;
+use option_words::{Sign, Takes, split_at_sign};
 use std::alloc::{AllocError, Global};
 
 /// How such a value is written.
 pub(crate) fn form_text(takes: Takes) -> &'static str {
     match takes {
         Takes::Number(_, _) => "a number is decimal, or hexadecimal after 0x\n",
-        Takes::Ranges(_, _) => "numbers and ranges are joined by commas, as 0,16-18,0x100\n",
+        Takes::Ranges(_) | Takes::RangesFrom(_, _) =>
+            "numbers and ranges are joined by commas, as 0,16-18,0x100\n",
         Takes::Pair(Sign::Slash, _, _) => "two numbers have / between them, as 1/2\n",
         Takes::Pair(Sign::Equals, _, _) => "two numbers have = between them, as 1=2\n",
         Takes::Pairs(Sign::Slash, _, _) =>
@@ -20,14 +19,15 @@ pub(crate) fn form_text(takes: Takes) -> &'static str {
         Takes::Pairs(Sign::Equals, _, _) =>
             "two numbers have = between them, and pairs are joined by commas, as 1=2,3=4\n",
         Takes::Bytes(_, _) => "each byte is two hexadecimal digits\n",
-        Takes::Nothing | Takes::Choice(_) | Takes::Text => "",
+        Takes::Choice(_) | Takes::Text => "",
     }
 }
 
 /// How all values of an option are given in one list, where it takes one.
 pub(crate) fn list_text(takes: Takes) -> &'static str {
     match takes {
-        Takes::Ranges(_, _) => "all of its numbers are given in one list, as 0,16-18,0x100\n",
+        Takes::Ranges(_) | Takes::RangesFrom(_, _) =>
+            "all of its numbers are given in one list, as 0,16-18,0x100\n",
         Takes::Pairs(Sign::Slash, _, _) => "all of its pairs are given in one list, as 1/2,3/4\n",
         Takes::Pairs(Sign::Equals, _, _) => "all of its pairs are given in one list, as 1=2,3=4\n",
         _ => "",
@@ -54,7 +54,7 @@ fn sign_text(takes: Takes, value: &str) -> &'static str {
 }
 
 // Puts the first of these that is so: a blank in the value, a comma between operands, a piece of it that is no number.
-fn put_slip(text: &mut String, row: &OptionRow, value: &str) -> Result<(), AllocError> {
+fn put_slip(text: &mut String, row: &ShownOption, value: &str) -> Result<(), AllocError> {
     if has_sign(value, ' ') {
         return text.push_str("no blank is allowed in the value\n");
     }
@@ -75,7 +75,7 @@ fn put_slip(text: &mut String, row: &OptionRow, value: &str) -> Result<(), Alloc
         return text.push('\n');
     }
     match row.takes {
-        Takes::Ranges(_, _) => text.push_str(
+        Takes::Ranges(_) | Takes::RangesFrom(_, _) => text.push_str(
             "a range goes from its lesser number to its greater\n",
         ),
         _ => Ok(()),
@@ -86,7 +86,7 @@ fn put_slip(text: &mut String, row: &OptionRow, value: &str) -> Result<(), Alloc
 fn put_range(text: &mut String, takes: Takes) -> Result<(), AllocError> {
     match takes {
         Takes::Number(least, most) => write!(text, "the range is {least} to {most}\n"),
-        Takes::Ranges(least, most) => {
+        Takes::RangesFrom(least, most) => {
             write!(text, "the range of each number is {least} to {most}\n")
         }
         Takes::Pair(_, first, second) | Takes::Pairs(_, first, second) => {
@@ -98,7 +98,7 @@ fn put_range(text: &mut String, takes: Takes) -> Result<(), AllocError> {
             )
         }
         Takes::Bytes(least, most) => write!(text, "the range is {least} to {most} bytes\n"),
-        Takes::Nothing | Takes::Choice(_) | Takes::Text => Ok(()),
+        Takes::Ranges(_) | Takes::Choice(_) | Takes::Text => Ok(()),
     }
 }
 
@@ -106,7 +106,7 @@ fn put_range(text: &mut String, takes: Takes) -> Result<(), AllocError> {
 pub(crate) fn put_value(
     alloc: Global,
     text: &mut String,
-    row: &OptionRow,
+    row: &ShownOption,
     value: &str,
 ) -> Result<(), AllocError> {
     if fits(alloc, wide(row.takes), value)? {

@@ -1,10 +1,10 @@
 //! Which word of a segment is wrong, and what is wrong with it.
 use crate::fits::{clashes, fits};
 use crate::help_table::HelpTable;
-use crate::option_row::OptionRow;
-use crate::role::{Role, is_dashed, is_flag, name_part, role_of, stands, value_part};
+use crate::role::{Role, is_dashed, name_part, role_of, stands, value_part};
 use crate::said::{Fault, Said};
 use crate::segment::{head_of, row_of, words_from};
+use crate::shown_option::ShownOption;
 use option_words::WordsRule;
 use std::alloc::{AllocError, Global};
 
@@ -18,13 +18,13 @@ fn shape_said<'a>(role: Role<'a>, word: &str, rest: &[String]) -> Option<Said<'a
         Role::Named(row) => row,
     };
     let has_value = name_part(word).len() != word.len();
-    if is_flag(row) && has_value {
+    if row.is_flag && has_value {
         return Some(Said::TakesNone(row));
     }
-    if !is_flag(row) && !has_value && rest.is_empty() {
+    if !row.is_flag && !has_value && rest.is_empty() {
         return Some(Said::NoValue(row));
     }
-    stands(row.name, rest).then_some(Said::Again(row))
+    stands(row.name.as_str(), rest).then_some(Said::Again(row))
 }
 
 // What is wrong with the value that a word is or has.
@@ -43,9 +43,12 @@ fn value_said<'a>(
 }
 
 // Whether another option of the same choice stands among words.
-fn other_stands(options: &[OptionRow], row: &OptionRow, words: &[String]) -> bool {
+fn other_stands(options: &[ShownOption], row: &ShownOption, words: &[String]) -> bool {
     for other in options {
-        if other.choice == row.choice && other.name != row.name && stands(other.name, words) {
+        if other.choice == row.choice
+            && other.name != row.name
+            && stands(other.name.as_str(), words)
+        {
             return true;
         }
     }
@@ -54,7 +57,7 @@ fn other_stands(options: &[OptionRow], row: &OptionRow, words: &[String]) -> boo
 
 // Which of all words a word, before these, does not go with.
 fn conflict_said<'a>(
-    options: &[OptionRow],
+    options: &[ShownOption],
     all: &[String],
     role: Role<'a>,
     word: &str,
@@ -62,7 +65,7 @@ fn conflict_said<'a>(
 ) -> Option<Said<'a>> {
     match role {
         Role::Named(row) => {
-            if !row.with.is_empty() && !stands(row.with, all) {
+            if !row.with.is_empty() && !stands(row.with.as_str(), all) {
                 return Some(Said::Alone(row));
             }
             let apart = !row.choice.is_empty() && other_stands(options, row, rest);
@@ -84,7 +87,7 @@ fn conflict_said<'a>(
 // The first word that is wrong of a segment with these options and operands, which stand after a head.
 fn first_fault<'a>(
     alloc: Global,
-    options: &'a [OptionRow],
+    options: &'a [ShownOption],
     rule: WordsRule,
     all: &[String],
     head: usize,
@@ -147,7 +150,7 @@ pub(crate) fn fault_of<'a>(
     }
     if let (Some(row), false) = (row_of(table, own), ends_options(own)) {
         let head = head_of(table, own);
-        if let Some(fault) = first_fault(alloc, row.options, rule, own, head)? {
+        if let Some(fault) = first_fault(alloc, row.options.as_slice(), rule, own, head)? {
             return Ok(fault);
         }
     }

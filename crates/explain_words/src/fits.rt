@@ -1,14 +1,13 @@
 //! Whether a word is what an option or operand takes.
-use crate::takes::Takes;
-use option_words::{read_bytes, read_number_within, read_pair, read_pair_list, read_ranges};
+use option_words::{Takes, read_bytes, read_number_within, read_pair, read_pair_list, read_ranges};
 use std::alloc::{AllocError, Global};
 
 /// Whether a word is what an option or operand takes.
 pub(crate) fn fits(alloc: Global, takes: Takes, word: &str) -> Result<bool, AllocError> {
     match takes {
-        Takes::Nothing => Ok(false),
         Takes::Number(least, most) => Ok(read_number_within(word, least, most).is_some()),
-        Takes::Ranges(least, most) => Ok(read_ranges(alloc, word, least, most)?.is_some()),
+        Takes::Ranges(most) => Ok(read_ranges(alloc, word, 0, most)?.is_some()),
+        Takes::RangesFrom(least, most) => Ok(read_ranges(alloc, word, least, most)?.is_some()),
         Takes::Pair(sign, one, other) => {
             Ok(read_pair(word, sign.character(), one, other).is_some())
         }
@@ -26,7 +25,7 @@ pub(crate) fn wide(takes: Takes) -> Takes {
     let any = (0, u64::MAX);
     match takes {
         Takes::Number(_, _) => Takes::Number(0, u64::MAX),
-        Takes::Ranges(_, _) => Takes::Ranges(0, u64::MAX),
+        Takes::Ranges(_) | Takes::RangesFrom(_, _) => Takes::RangesFrom(0, u64::MAX),
         Takes::Pair(sign, _, _) => Takes::Pair(sign, any, any),
         Takes::Pairs(sign, _, _) => Takes::Pairs(sign, any, any),
         Takes::Bytes(_, _) => Takes::Bytes(0, usize::MAX),

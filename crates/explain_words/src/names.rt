@@ -1,8 +1,8 @@
 //! Names of the table: those that there are, the one that is nearest to a word, and where else a word is known.
 use crate::help_table::HelpTable;
-use crate::option_row::OptionRow;
 use crate::role::{name_part, named};
 use crate::segment_row::SegmentRow;
+use crate::shown_option::ShownOption;
 use std::alloc::{AllocError, Global};
 use strsim::levenshtein;
 
@@ -12,7 +12,7 @@ pub(crate) fn put_names(
     table: &HelpTable,
     first: &str,
 ) -> Result<(), AllocError> {
-    for row in table.segments {
+    for row in &table.segments {
         if row.first == first {
             write!(text, " {}", row.name)?;
         }
@@ -21,11 +21,11 @@ pub(crate) fn put_names(
 }
 
 /// Puts the names of options, and that there are none where it is so.
-pub(crate) fn put_options(text: &mut String, options: &[OptionRow]) -> Result<(), AllocError> {
+pub(crate) fn put_options(text: &mut String, options: &[ShownOption]) -> Result<(), AllocError> {
     let before = text.len();
     for row in options {
         if row.place == 0 {
-            write!(text, " {}", row.name)?;
+            write!(text, " {}", row.name.as_str())?;
         }
     }
     if text.len() == before {
@@ -36,7 +36,7 @@ pub(crate) fn put_options(text: &mut String, options: &[OptionRow]) -> Result<()
 
 // Whether the segment has this name, or an option of this name.
 fn has_word(row: &SegmentRow, word: &str) -> bool {
-    row.name == word || named(row.options, name_part(word)).is_some()
+    row.name == word || named(row.options.as_slice(), name_part(word)).is_some()
 }
 
 /// Puts one line with the segments that have this name or this option, where there is one.
@@ -51,7 +51,7 @@ pub(crate) fn put_homes(
     if has_word(general, word) {
         write!(homes, " {} {}", general.first, general.name)?;
     }
-    for row in table.segments {
+    for row in &table.segments {
         if has_word(row, word) {
             write!(homes, " {} {}", row.first, row.name)?;
         }
@@ -75,20 +75,20 @@ fn put_near(text: &mut String, name: &str) -> Result<(), AllocError> {
 pub(crate) fn put_near_option(
     alloc: Global,
     text: &mut String,
-    options: &[OptionRow],
+    options: &[ShownOption],
     word: &str,
 ) -> Result<(), AllocError> {
     let ending = word.as_bytes().get(1..).unwrap_or(&[]);
     let mut least = word.len() / 2 + 1;
     let mut name = "";
     for row in options {
-        let mut changes = levenshtein(alloc, word, row.name)?;
+        let mut changes = levenshtein(alloc, word, row.name.as_str())?;
         if row.name.as_bytes().ends_with(ending) {
             changes /= 2;
         }
         if changes < least {
             least = changes;
-            name = row.name;
+            name = row.name.as_str();
         }
     }
     put_near(text, name)

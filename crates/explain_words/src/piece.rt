@@ -1,6 +1,5 @@
 //! The piece of a value that is not read as a number.
-use crate::takes::Takes;
-use option_words::{read_number_within, split_at_sign};
+use option_words::{Takes, read_number_within, split_at_sign};
 
 // The text, where it is no number of any range.
 fn no_number(text: &str) -> Option<&str> {
@@ -22,7 +21,7 @@ fn no_number_of_two<'a>(one: &'a str, other: &'a str) -> Option<&'a str> {
 fn wrong_in_part(takes: Takes, part: &str) -> Option<&str> {
     match takes {
         Takes::Number(_, _) => no_number(part),
-        Takes::Ranges(_, _) => {
+        Takes::Ranges(_) | Takes::RangesFrom(_, _) => {
             match split_at_sign(part, '-') {
                 Some((low, high)) => no_number_of_two(low, high),
                 None => no_number(part),
@@ -34,14 +33,14 @@ fn wrong_in_part(takes: Takes, part: &str) -> Option<&str> {
                 None => None,
             }
         }
-        Takes::Nothing | Takes::Bytes(_, _) | Takes::Choice(_) | Takes::Text => None,
+        Takes::Bytes(_, _) | Takes::Choice(_) | Takes::Text => None,
     }
 }
 
 /// The first piece of a value that should be a number and is none; commas join what a list takes.
 pub(crate) fn wrong_piece(takes: Takes, value: &str) -> Option<&str> {
     match takes {
-        Takes::Ranges(_, _) | Takes::Pairs(_, _, _) => {
+        Takes::Ranges(_) | Takes::RangesFrom(_, _) | Takes::Pairs(_, _, _) => {
             for part in value.split(',') {
                 if let Some(piece) = wrong_in_part(takes, part) {
                     return Some(piece);

@@ -1,29 +1,20 @@
 //! What a word of a segment stands for.
-use crate::option_row::OptionRow;
-use crate::takes::Takes;
+use crate::shown_option::ShownOption;
 use option_words::split_at_sign;
 
 /// What a word of a segment stands for, by the words before it.
 #[derive(Clone, Copy)]
 pub(crate) enum Role<'a> {
     /// The value of the option before it.
-    Value(&'a OptionRow),
+    Value(&'a ShownOption),
     /// An option, by itself or with its value after `=`.
-    Named(&'a OptionRow),
+    Named(&'a ShownOption),
     /// It begins with a dash and is no option.
     Unknown,
     /// An operand.
-    Operand(&'a OptionRow),
+    Operand(&'a ShownOption),
     /// An operand more than the segment takes.
     Extra,
-}
-
-/// Whether the option is a flag.
-pub(crate) fn is_flag(row: &OptionRow) -> bool {
-    match row.takes {
-        Takes::Nothing => true,
-        _ => false,
-    }
 }
 
 /// The name of an option, which ends before `=`.
@@ -51,9 +42,9 @@ pub(crate) fn is_dashed(word: &str) -> bool {
 }
 
 /// The option of this name.
-pub(crate) fn named<'a>(options: &'a [OptionRow], name: &str) -> Option<&'a OptionRow> {
+pub(crate) fn named<'a>(options: &'a [ShownOption], name: &str) -> Option<&'a ShownOption> {
     for row in options {
-        if row.place == 0 && row.name == name {
+        if row.place == 0 && row.name.as_str() == name {
             return Some(row);
         }
     }
@@ -61,7 +52,7 @@ pub(crate) fn named<'a>(options: &'a [OptionRow], name: &str) -> Option<&'a Opti
 }
 
 /// The operand after so many others.
-pub(crate) fn operand(options: &[OptionRow], count: usize) -> Option<&OptionRow> {
+pub(crate) fn operand(options: &[ShownOption], count: usize) -> Option<&ShownOption> {
     for row in options {
         if row.place != 0 && (row.place - 1 == count || (row.many && row.place - 1 <= count)) {
             return Some(row);
@@ -72,13 +63,13 @@ pub(crate) fn operand(options: &[OptionRow], count: usize) -> Option<&OptionRow>
 
 /// What a word stands for after another one and so many operands.
 pub(crate) fn role_of<'a>(
-    options: &'a [OptionRow],
+    options: &'a [ShownOption],
     previous: &str,
     count: usize,
     word: &str,
 ) -> Role<'a> {
     if let Some(row) = named(options, previous) {
-        if !is_flag(row) {
+        if !row.is_flag {
             return Role::Value(row);
         }
     }

@@ -1,5 +1,5 @@
 //! What can be wrong with a segment.
-use crate::option_row::OptionRow;
+use crate::shown_option::ShownOption;
 
 /// What is wrong with a segment or with one word of it.
 #[derive(Clone, Copy)]
@@ -17,19 +17,19 @@ pub(crate) enum Said<'a> {
     /// The word is an operand more than the segment takes.
     Extra,
     /// The option's value is wanting.
-    NoValue(&'a OptionRow),
+    NoValue(&'a ShownOption),
     /// The option stands again after it.
-    Again(&'a OptionRow),
+    Again(&'a ShownOption),
     /// The option is a flag, and the word gives it a value.
-    TakesNone(&'a OptionRow),
+    TakesNone(&'a ShownOption),
     /// The value is none that the option or operand takes.
-    BadValue(&'a OptionRow),
+    BadValue(&'a ShownOption),
     /// Another option stands of those of which one alone may be given.
-    Apart(&'a OptionRow),
+    Apart(&'a ShownOption),
     /// A pair that a later one has a number in common with.
-    Clash(&'a OptionRow),
+    Clash(&'a ShownOption),
     /// The option stands without the one that it needs.
-    Alone(&'a OptionRow),
+    Alone(&'a ShownOption),
     /// Something is wanting.
     Missing,
     /// No one word can be named.

@@ -2,19 +2,19 @@
 use crate::bad_value::{form_text, list_text, put_value};
 use crate::help_table::HelpTable;
 use crate::names::put_names;
-use crate::option_row::OptionRow;
 use crate::role::value_part;
 use crate::said::{Fault, Said};
 use crate::segment::{head_of, row_of, word_or_none, words_from};
 use crate::segment_row::SegmentRow;
+use crate::shown_option::ShownOption;
 use crate::unknown::{put_unknown_name, put_unknown_option};
 use crate::wanted::put_wanted;
 use option_words::read_number_within;
 use std::alloc::{AllocError, Global};
 
 // Puts how an option or operand is written, and what it means.
-fn put_meaning(text: &mut String, row: &OptionRow) -> Result<(), AllocError> {
-    write!(text, "{}: {}\n", row.form, row.meaning)
+fn put_meaning(text: &mut String, row: &ShownOption) -> Result<(), AllocError> {
+    write!(text, "{}: {}\n", row.form.as_str(), row.meaning)
 }
 
 // Puts what is said of one option.
@@ -26,7 +26,7 @@ fn put_option_said(
 ) -> Result<(), AllocError> {
     match said {
         Said::NoValue(row) => {
-            write!(text, "{} needs a value\n", row.name)?;
+            write!(text, "{} needs a value\n", row.name.as_str())?;
             put_meaning(text, row)?;
             text.push_str(form_text(row.takes))
         }
@@ -34,21 +34,30 @@ fn put_option_said(
             write!(
                 text,
                 "{} is given twice\n{}",
-                row.name,
+                row.name.as_str(),
                 list_text(row.takes)
             )
         }
-        Said::TakesNone(row) => write!(text, "{} takes no value\n", row.name),
+        Said::TakesNone(row) => write!(text, "{} takes no value\n", row.name.as_str()),
         Said::BadValue(row) => {
             put_meaning(text, row)?;
             put_value(alloc, text, row, value_part(word))
         }
-        Said::Apart(row) => write!(text, "only one of these may be given: {}\n", row.choice),
+        Said::Apart(row) => write!(
+            text,
+            "only one of these may be given: {}\n",
+            row.choice.as_str()
+        ),
         Said::Clash(row) => {
             text.push_str("a later pair has the same first or the same second number\n")?;
             put_meaning(text, row)
         }
-        Said::Alone(row) => write!(text, "{} is only allowed with {}\n", row.name, row.with),
+        Said::Alone(row) => write!(
+            text,
+            "{} is only allowed with {}\n",
+            row.name.as_str(),
+            row.with.as_str()
+        ),
         _ => Ok(()),
     }
 }
@@ -74,7 +83,12 @@ fn put_segment_said(
             }
         }
         Said::Missing => {
-            put_wanted(text, row.options, own, words_from(own, head_of(table, own)))?;
+            put_wanted(
+                text,
+                row.options.as_slice(),
+                own,
+                words_from(own, head_of(table, own)),
+            )?;
             write!(text, "usage: {}\n{}\n", row.usage, row.rule)
         }
         Said::Whole => write!(text, "usage: {}\n{}\n", row.usage, row.rule),

@@ -4,7 +4,7 @@ use crate::segment_row::SegmentRow;
 
 // Whether the word begins a segment.
 fn begins(table: &HelpTable, word: &str) -> bool {
-    for row in table.segments {
+    for row in &table.segments {
         if row.first == word {
             return true;
         }
@@ -46,7 +46,7 @@ pub(crate) fn head_of(table: &HelpTable, own: &[String]) -> usize {
 
 /// What is said of the segment of this first word and this name, where there is one.
 pub(crate) fn called<'a>(table: &'a HelpTable, first: &str, name: &str) -> Option<&'a SegmentRow> {
-    for row in table.segments {
+    for row in &table.segments {
         if row.first == first && row.name == name {
             return Some(row);
         }

@@ -47,7 +47,7 @@ pub(crate) fn put_unknown_name(
 ) -> Result<(), AllocError> {
     let first = word_or_none(own, 0);
     let name = word_or_none(own, 1);
-    put_near_name(alloc, text, table.segments, first, name)?;
+    put_near_name(alloc, text, table.segments.as_slice(), first, name)?;
     write!(text, "unknown name after {first}; there are:")?;
     put_names(text, table, first)?;
     text.push('\n')?;
@@ -88,13 +88,13 @@ pub(crate) fn put_unknown_option(
     at: usize,
 ) -> Result<(), AllocError> {
     let word = word_or_none(own, at);
-    put_near_option(alloc, text, row.options, name_part(word))?;
+    put_near_option(alloc, text, row.options.as_slice(), name_part(word))?;
     write!(
         text,
         "unknown option of {} {}; there are:",
         row.first, row.name
     )?;
-    put_options(text, row.options)?;
+    put_options(text, row.options.as_slice())?;
     write!(text, "\nusage: {}\n", row.usage)?;
     put_homes(alloc, text, table, word)?;
     let capital = with_capital(word);
@@ -102,11 +102,12 @@ pub(crate) fn put_unknown_option(
         write!(text, "{capital} is written with a capital letter\n")?;
     }
     if at == head_of(table, own) {
-        if let Some(first) = operand(row.options, 0) {
+        if let Some(first) = operand(row.options.as_slice(), 0) {
             write!(
                 text,
                 "{} is given without an option: {}\n",
-                first.form, first.meaning
+                first.form.as_str(),
+                first.meaning
             )?;
         }
     }

@@ -1,10 +1,11 @@
 //! What a segment wants.
-use crate::option_row::OptionRow;
 use crate::role::{Role, role_of, stands};
+use crate::shown_option::ShownOption;
+use option_words::Need;
 use std::alloc::AllocError;
 
 // How many operands stand among words; each word after `--` is one.
-fn operands_in(options: &[OptionRow], words: &[String]) -> usize {
+fn operands_in(options: &[ShownOption], words: &[String]) -> usize {
     let mut previous = "";
     let mut count = 0usize;
     let mut left = words.len();
@@ -23,9 +24,9 @@ fn operands_in(options: &[OptionRow], words: &[String]) -> usize {
 }
 
 // Whether an option of the same choice stands.
-fn choice_stands(options: &[OptionRow], row: &OptionRow, own: &[String]) -> bool {
+fn choice_stands(options: &[ShownOption], row: &ShownOption, own: &[String]) -> bool {
     for other in options {
-        if other.choice == row.choice && stands(other.name, own) {
+        if other.choice == row.choice && stands(other.name.as_str(), own) {
             return !row.choice.is_empty();
         }
     }
@@ -35,30 +36,30 @@ fn choice_stands(options: &[OptionRow], row: &OptionRow, own: &[String]) -> bool
 // Puts a line for each option and operand that the segment has to have and that does not stand in it.
 fn put_needed(
     text: &mut String,
-    options: &[OptionRow],
+    options: &[ShownOption],
     count: usize,
     own: &[String],
 ) -> Result<(), AllocError> {
     for row in options {
         let is_there = if row.place == 0 {
-            stands(row.name, own)
+            stands(row.name.as_str(), own)
         } else {
             row.place <= count
         };
-        if row.wanted && !is_there && !choice_stands(options, row, own) {
-            write!(text, "needed: {}: {}\n", row.form, row.meaning)?;
+        if row.need == Need::Required && !is_there && !choice_stands(options, row, own) {
+            write!(text, "needed: {}: {}\n", row.form.as_str(), row.meaning)?;
         }
     }
     Ok(())
 }
 
 // Puts a line with the options of which one has to be given and none is.
-fn put_group(text: &mut String, options: &[OptionRow], own: &[String]) -> Result<(), AllocError> {
+fn put_group(text: &mut String, options: &[ShownOption], own: &[String]) -> Result<(), AllocError> {
     let mut has_group = false;
     for row in options {
-        if row.in_group {
+        if row.need == Need::OneOf {
             has_group = true;
-            if stands(row.name, own) {
+            if stands(row.name.as_str(), own) {
                 return Ok(());
             }
         }
@@ -68,8 +69,8 @@ fn put_group(text: &mut String, options: &[OptionRow], own: &[String]) -> Result
     }
     text.push_str("needed: at least one of:")?;
     for row in options {
-        if row.in_group {
-            write!(text, " {}", row.name)?;
+        if row.need == Need::OneOf {
+            write!(text, " {}", row.name.as_str())?;
         }
     }
     text.push('\n')
@@ -78,7 +79,7 @@ fn put_group(text: &mut String, options: &[OptionRow], own: &[String]) -> Result
 /// Puts a line for what the segment has to have and does not; the last ones of its words are options and operands.
 pub(crate) fn put_wanted(
     text: &mut String,
-    options: &[OptionRow],
+    options: &[ShownOption],
     own: &[String],
     words: &[String],
 ) -> Result<(), AllocError> {

@@ -6,8 +6,6 @@ use Rattle.std.specs.Str.Pattern.{FindsTextPrefix, StripsPrefix}
 use Rattle.std.proofs.lemmas.Grind.{flat_map-append}
 use Rattle.std.proofs.lemmas.List.{take_more}
 use Rattle.std.proofs.lemmas.Str.Pattern.{starts_text}
-use Rattle.ts_bits.specs.TaggedBody.{TaggedBody}
-use Rattle.plugin_notes.specs.PidPackets.{numbers_below}
 use Rattle.info_texts.specs.InfoJson.{behind_comma, joined}
 
 -- items without the first comma

@@ -7,7 +7,6 @@ use Rattle.hex.specs.Hex.{encode_lower}
 use Rattle.ts_bits.specs.TaggedBody.{TaggedBody}
 use Rattle.ts_fields.specs.Texts.{text_of}
 use Rattle.ts_packet.specs.declared.numbers.TheConstants.{PACKET_SIZE}
-use Rattle.plugin_notes.specs.PidPackets.{numbers_below}
 use Rattle.info_texts.specs.InfoNames.{service_type_names, stream_type_names, text_for}
 use Rattle.info_texts.specs.InfoTexts.{hex_text, rate_part}
 use Rattle.info_texts.specs.Marks.{audio_type_of, codecs_of, languages_of}

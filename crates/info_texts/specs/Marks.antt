@@ -3,8 +3,8 @@
 -- ISO_639_language_descriptor with a language code. ETSI EN 300 468, 6.2.16, 6.2.41, 6.2.43 and 6.4: an
 -- extension_descriptor, tag 0x7F, begins with the descriptor_tag_extension. That the first of equals counts is this
 -- project's own rule.
-use Rattle.std.specs.Prelude.{ℕ, ◌+◌, ◌%◌, ◌==◌, Bool, not, ◌&&◌, List, [], ◌∷◌, ◌++◌, length, take, drop, fold, nat_le, Option, None, Some, option_to_list, if◌then◌else◌}
-use Rattle.std.specs.List.{flat_map, list_all, list_any}
+use Rattle.std.specs.Prelude.{ℕ, ◌+◌, ◌%◌, ◌==◌, Bool, ◌&&◌, List, [], ◌∷◌, ◌++◌, length, take, drop, fold, nat_le, Option, None, Some, option_to_list, if◌then◌else◌}
+use Rattle.std.specs.List.{flat_map, list_any}
 use Rattle.std.specs.Option.{option_or}
 use Rattle.std.specs.Str.{bytes_eq}
 use Rattle.ts_bits.specs.TaggedBody.{TaggedBody}

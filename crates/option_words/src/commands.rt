@@ -2,10 +2,12 @@
 ghost use Rattle.std.specs.Prelude.{◌≡◌, IfOk, false};
 ghost use Rattle.clap.specs.Simple.{app_of, with_rule};
 ghost use Rattle.clap.specs.Walk.{rule_of};
-ghost use Rattle.option_words.specs.Options.{bare_command, command_of, flag_rule, operand_rule, operands_rule, value_rule};
-ghost use Rattle.option_words.specs.OptionWords.{rows_of_words, rule_of_word};
+ghost use Rattle.option_words.specs.Options.{bare_command, command_of, value_rule};
+ghost use Rattle.option_words.specs.OptionWords.{rows_of_options, rule_of_word};
 
+use crate::option_row::OptionRow;
 use crate::option_word::OptionWord;
+use crate::takes::Takes;
 use clap::{Arg, ArgAction, Command};
 use std::alloc::{AllocError, Global};
 
@@ -26,9 +28,9 @@ fn argument<'a>(alloc: Global, option: OptionWord<'a>) -> Arg<'a>
 {
     match option {
         OptionWord::Flag(name) => Arg::new(alloc, name).long(name).action(ArgAction::SetTrue),
-        OptionWord::Value(name) => Arg::new(alloc, name).long(name).action(ArgAction::Set),
-        OptionWord::Operand(name) => Arg::new(alloc, name).action(ArgAction::Set),
-        OptionWord::Operands(name) => Arg::new(alloc, name).action(ArgAction::Append),
+        OptionWord::Value(name, _) => Arg::new(alloc, name).long(name).action(ArgAction::Set),
+        OptionWord::Operand(name, _) => Arg::new(alloc, name).action(ArgAction::Set),
+        OptionWord::Operands(name, _) => Arg::new(alloc, name).action(ArgAction::Append),
     }
 }
 
@@ -43,17 +45,6 @@ fn with_option<'a>(
     command.arg(argument(alloc, option))
 }
 
-/// Adds a flag `--name`.
-pub fn with_flag<'a>(
-    alloc: Global,
-    command: Command<'a>,
-    name: &'a str,
-) -> Result<Command<'a>, AllocError>
-    ensures { IfOk result (λ c. app_of c ≡ with_rule (app_of command.entry) (flag_rule name.entry.now)) }
-{
-    with_option(alloc, command, OptionWord::Flag(name))
-}
-
 /// Adds an option `--name value`.
 pub fn with_value<'a>(
     alloc: Global,
@@ -62,41 +53,16 @@ pub fn with_value<'a>(
 ) -> Result<Command<'a>, AllocError>
     ensures { IfOk result (λ c. app_of c ≡ with_rule (app_of command.entry) (value_rule name.entry.now)) }
 {
-    with_option(alloc, command, OptionWord::Value(name))
-}
-
-/// Adds one operand.
-pub fn with_operand<'a>(
-    alloc: Global,
-    command: Command<'a>,
-    name: &'a str,
-) -> Result<Command<'a>, AllocError>
-    ensures { IfOk result (λ c. app_of c ≡ with_rule (app_of command.entry) (operand_rule name.entry.now)) }
-{
-    with_option(alloc, command, OptionWord::Operand(name))
-}
-
-/// Adds operands, of which there may be any number.
-pub fn with_operands<'a>(
-    alloc: Global,
-    command: Command<'a>,
-    name: &'a str,
-) -> Result<Command<'a>, AllocError>
-    ensures { IfOk result (λ c. app_of c ≡ with_rule (app_of command.entry) (operands_rule name.entry.now)) }
-{
-    with_option(alloc, command, OptionWord::Operands(name))
+    with_option(alloc, command, OptionWord::Value(name, Takes::Text))
 }
 
 /// The command of a table of options.
-pub fn command_with<'a>(
-    alloc: Global,
-    options: &[OptionWord<'a>],
-) -> Result<Command<'a>, AllocError>
-    ensures { IfOk result (λ c. app_of c ≡ command_of (rows_of_words options.entry.now)) }
+pub fn command_with<'a>(alloc: Global, options: &[OptionRow<'a>]) -> Result<Command<'a>, AllocError>
+    ensures { IfOk result (λ c. app_of c ≡ command_of (rows_of_options options.entry.now)) }
 {
     let mut command = new_command(alloc);
     for option in options {
-        command = with_option(alloc, command, *option)?;
+        command = with_option(alloc, command, option.word)?;
     }
     Ok(command)
 }

@@ -1,13 +1,15 @@
-//! A row of a table of options.
-/// A row of a command's table of options: the option's name, by what it takes.
+//! An option of a command, and what it takes.
+use crate::takes::Takes;
+
+/// The name of an option or of an operand, by what it is, with what it takes.
 #[derive(Clone, Copy)]
 pub enum OptionWord<'a> {
     /// A flag `--name`, without a value.
     Flag(&'a str),
     /// An option `--name value`.
-    Value(&'a str),
+    Value(&'a str, Takes),
     /// One operand.
-    Operand(&'a str),
+    Operand(&'a str, Takes),
     /// Operands, of which there may be any number.
-    Operands(&'a str),
+    Operands(&'a str, Takes),
 }

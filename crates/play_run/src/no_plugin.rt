@@ -1,13 +1,11 @@
 //! The plugin type of a chain that has no plugin.
-use plugin_trait::{Line, Outcome, Plugin, silent_report};
-use std::alloc::{AllocError, Global};
-use ts_packet::Cell;
+use plugin_trait::{Line, Outcome, Plugin};
+use std::alloc::AllocError;
+use ts_packet::{Labels, Packet};
 
 /// Passes every packet. A play has no plugins, and this is the type that they would have.
 #[derive(Drop)]
-pub struct NoPlugin {
-    alloc: Global,
-}
+pub struct NoPlugin;
 
 impl Plugin for NoPlugin {
     ghost use Rattle.std.specs.Prelude.{◌≡◌, ◌≤◌, None, length, refl, true};
@@ -22,11 +20,13 @@ impl Plugin for NoPlugin {
 
     ghost silent = { λ _. true };
 
-    fn step(&mut self, _at: u64, _cell: &mut Cell) -> Outcome {
+    fn step(&mut self, _at: u64, _packet: &mut Packet, _labels: &mut Labels) -> Outcome {
         Outcome::Pass
     }
 
-    fn note(&mut self, _written: u64) -> Result<(), AllocError> {
+    fn pass_over(&mut self, _at: u64) {}
+
+    fn note(&mut self, _written: u64, _lines: &mut Vec<Line>) -> Result<(), AllocError> {
         Ok(())
     }
 
@@ -34,8 +34,12 @@ impl Plugin for NoPlugin {
         false
     }
 
-    fn finish(&mut self, _cut: u64) -> Result<Vec<Line>, AllocError> {
-        Ok(silent_report(self.alloc))
+    fn summary(&self, _at: u64, _lines: &mut Vec<Line>) -> Result<(), AllocError> {
+        Ok(())
+    }
+
+    fn has_fault(&self, _cut: u64) -> bool {
+        false
     }
 
     ghost starts_open = { λ plugin history mark stands. refl };

@@ -5,7 +5,7 @@ use Rattle.ts_packet.specs.Cells.{Live, Dropped, live_packets}
 use Rattle.ts_packet.specs.Header.{pid_of, has_payload_of}
 use Rattle.chain_model.specs.declared.positions.TheConstants.{POSITION_LIMIT}
 use Rattle.plugin_trait.specs.declared.line.Line.{Line}
-use Rattle.plugin_trait.specs.PlacedLines.{placed_at, placed_of}
+use Rattle.plugin_trait.specs.PlacedLines.{placed_at}
 use Rattle.plugin_notes.specs.LastSeen.{Remembers}
 use Rattle.plugin_notes.specs.NotesKept.{CanFold, Folds, notes_below}
 use Rattle.plugin_notes.specs.declared.last_packets.LastPackets.{LastPackets}
@@ -17,13 +17,12 @@ use Rattle.plug_analyze.specs.declared.service_count.ServiceCount.{ServiceCount}
 use Rattle.plug_analyze.specs.declared.services.Services.{Services}
 use Rattle.plug_analyze.specs.declared.totals.Totals.{Totals}
 use Rattle.plug_analyze.specs.AnalyzeNotes.{is_fault_at, note_on, noted, pid_in, place_of}
-use Rattle.plug_analyze.specs.AnalyzeRule.{all_pids, analyze_rule, has_pcr, is_scrambled, services_in_force, summary_on}
+use Rattle.plug_analyze.specs.AnalyzeRule.{all_pids, has_pcr, is_scrambled, services_in_force, summary_on}
 use Rattle.plug_analyze.specs.AnalyzeState.{Analyzes, Serves}
 use Rattle.plug_analyze.specs.ServicesKept.{DropsChanges}
 use Rattle.plug_analyze.specs.TotalsOf.{AreCounted, AreTotals}
 use Rattle.plug_analyze.proofs.NotesLemmas.{are_counted, on_pids, one_note}
-use Rattle.plug_analyze.proofs.ServicesKeeping.{now_is, serves_dropped, serves_folded}
-use Rattle.plug_analyze.proofs.SummaryLemmas.{report_is}
+use Rattle.plug_analyze.proofs.ServicesKeeping.{serves_dropped, serves_folded}
 
 -- a note whose parts are those of a packet is the packet's
 pub note_is : (at pid : ℕ) (payload scrambled fault pcr : Bool) (history : List Cell) (packet : List ℕ) → at ≡ length history → pid ≡ pid_of packet
@@ -74,29 +73,24 @@ module _ (last : LastPackets) (kept kept_new : Noted) (services services_new : S
     (w : Analyzes last kept services history mark) (later : mark ≤ to) (within : to ≤ length history)
     (folds : Folds place_of AreTotals to kept.notes.items kept_new.notes.items kept.totals kept_new.totals)
     (drops : DropsChanges to services.services.items services_new.services.items services.changes.items services_new.changes.items) where
-  -- what was counted then
-  totals_then : AreTotals kept_new.totals (notes_below note_on to history)
-  totals_then =
-      keeping.counted_below note_on place_of one_note kept.notes.items history mark w.keeps to kept_new.notes.items later within folds.takes AreTotals kept_new.totals
-      (folds.counted (notes_below note_on mark history) w.totals_are)
-
   -- a later mark
   pub analyzes_folded : services_new.force ≡ services.force → Analyzes last kept_new services_new history to
   analyzes_folded same = record {
     remembers = w.remembers;
     keeps = keeping.keeps_left note_on place_of one_note kept.notes.items history mark w.keeps to kept_new.notes.items later within folds.takes;
-    totals_are = totals_then;
+    totals_are =
+        keeping.counted_below note_on place_of one_note kept.notes.items history mark w.keeps to kept_new.notes.items later within folds.takes AreTotals kept_new.totals
+        (folds.counted (notes_below note_on mark history) w.totals_are);
     serves = serves_folded services services_new history mark to w.serves later within drops same;
     short = w.short;
   }
 
-  -- the report over the cells before the position
-  pub report_of : (totals : Totals) (ss : List ServiceCount) (before lines : List Line) → totals ≡ kept_new.totals → ss ≡ services_new.services.items → before ≡ []
-      → ((cells : List Cell) → AreCounted totals cells → ss ≡ services_in_force (live_packets cells) → lines ≡ before ++ placed_at to (summary_on cells))
-      → lines ≡ placed_of analyze_rule (take to history)
-  report_of totals ss before lines totals_are ss_are none pushed =
-      report_is history to lines within
-      (pushed (take to history)
-      (subst (λ (t : Totals). AreCounted t (take to history)) (sym totals_are) (are_counted kept_new.totals (notes_below note_on to history) (take to history) refl totals_then))
-      (ss_are ∙ now_is services.services.items services.changes.items history mark w.serves.kept to services_new.services.items services_new.changes.items later within drops)
-      ∙ ap (λ (ls : List Line). ls ++ placed_at to (summary_on (take to history))) none)
+-- the summary over the cells below the mark
+pub summary_is : (last : LastPackets) (kept : Noted) (services : Services) (history : List Cell) (mark : ℕ) → Analyzes last kept services history mark
+    → (totals : Totals) (ss : List ServiceCount) (at : ℕ) (before lines : List Line) → totals ≡ kept.totals → ss ≡ services.services.items
+    → ((cells : List Cell) → AreCounted totals cells → ss ≡ services_in_force (live_packets cells) → lines ≡ before ++ placed_at at (summary_on cells))
+    → lines ≡ before ++ placed_at at (summary_on (take mark history))
+summary_is last kept services history mark w totals ss at before lines totals_are ss_are pushed =
+    pushed (take mark history)
+    (subst (λ (t : Totals). AreCounted t (take mark history)) (sym totals_are) (are_counted kept.totals (notes_below note_on mark history) (take mark history) refl w.totals_are))
+    (ss_are ∙ w.serves.kept.now)

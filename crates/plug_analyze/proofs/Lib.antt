@@ -4,5 +4,6 @@ pub mod NotesLemmas
 pub mod NotesKeeping
 pub mod ServicesKeeping
 pub mod SummaryLemmas
+pub mod WithoutLines
 pub mod Analyzing
 mod Rows

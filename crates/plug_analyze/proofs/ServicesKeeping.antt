@@ -100,6 +100,7 @@ module _ (services : List ServiceCount) (changes : List Change) (history : List 
       → KeepsServices services changes (history ++ cell ∷ []) mark
   kept_same cell same = record {
     marked = omega (arith, w.marked, length-append history (cell ∷ []));
+    now = w.now ∙ sym (at-same mark history cell w.marked);
     early = earlier history cell changes w.early;
     each = λ k ge le. elim (cases_lt (length history) k) [
       | inl more ↦
@@ -116,6 +117,7 @@ module _ (services : List ServiceCount) (changes : List Change) (history : List 
       → KeepsServices services (changes ++ change ∷ []) (history ++ cell ∷ []) mark
   kept_change cell change at_is services_are = record {
     marked = omega (arith, w.marked, length-append history (cell ∷ []));
+    now = w.now ∙ sym (at-same mark history cell w.marked);
     early = All-push (λ (c : Change). c.at < length (history ++ cell ∷ [])) changes change (earlier history cell changes w.early) (omega (arith, at_is, length-append history (cell ∷ [])));
     each = λ k ge le. elim (cases_lt (length history) k) [
       | inl more ↦
@@ -134,16 +136,12 @@ module _ (services : List ServiceCount) (changes : List Change) (history : List 
       → DropsChanges to services services_new changes changes_new → KeepsServices services_new changes_new history to
   kept_folded to services_new changes_new later within drops = record {
     marked = within;
+    now = drops.services_are ∙ w.each to later within;
     early = subst (All (λ (c : Change). c.at < length history)) (sym drops.changes_are) (left_all (length history) to changes w.early);
     each = λ k ge le.
         ap₂ (services_below k) drops.services_are drops.changes_are
         ∙ (below_left to k services changes ge ∙ w.each k (omega (arith, later, ge)) le);
   }
-
-  -- and then those at the position are known
-  pub now_is : (to : ℕ) (services_new : List ServiceCount) (changes_new : List Change) → mark ≤ to → to ≤ length history
-      → DropsChanges to services services_new changes changes_new → services_new ≡ services_in_force (live_packets (take to history))
-  now_is to services_new changes_new later within drops = drops.services_are ∙ w.each to later within
 
 -- entries with the same PMTs
 services-same : (f g : ℕ → Option TableHolding) → ((service : ℕ) → f service ≡ g service) → (entries : List (ℕ × ℕ)) → map (service_with f) entries ≡ map (service_with g) entries
@@ -173,6 +171,7 @@ serves_new services fed services_are none = record {
   fed = fed;
   kept = subst (λ (cs : List Change). KeepsServices services.services.items cs [] 0) (sym none) (record {
     marked = omega arith;
+    now = services_are ∙ sym (at-end 0 [] (omega arith));
     early = λ k d lt. absurd (omega (arith, lt));
     each = λ k ge le. services_are ∙ sym (at-end k [] ge);
   });

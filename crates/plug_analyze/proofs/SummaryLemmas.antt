@@ -1,16 +1,15 @@
 -- The lines of the summary.
-use Rattle.std.proofs.Common.{◌≡◌, ℕ, ◌+◌, ◌<◌, ◌≤◌, List, [], ◌∷◌, ◌++◌, length, take, map, filter, ap, sym, subst, ◌∙◌, refl, Bool, true, false, not, ◌==◌, if◌then◌else◌, append_assoc, append-nil, get_or}
+use Rattle.std.proofs.Common.{◌≡◌, ℕ, ◌+◌, ◌<◌, List, [], ◌∷◌, ◌++◌, length, take, map, filter, ap, sym, subst, ◌∙◌, Bool, true, false, not, ◌==◌, if◌then◌else◌, append_assoc, append-nil, get_or}
 use Rattle.std.specs.List.{All}
-use Rattle.std.proofs.lemmas.List.{length-take-le, map-append, take_more}
+use Rattle.std.proofs.lemmas.List.{map-append, take_more}
 use Rattle.std.proofs.lemmas.List.Elements.{All-push, filter-append}
 use Rattle.ts_packet.specs.declared.cell.Cell.{Cell}
-use Rattle.ts_packet.specs.Cells.{Live, Dropped}
 use Rattle.ts_packet.specs.declared.numbers.TheConstants.{PID_COUNT}
 use Rattle.plugin_trait.specs.declared.line.Line.{Line}
-use Rattle.plugin_trait.specs.PlacedLines.{placed_after, placed_at, placed_of}
+use Rattle.plugin_trait.specs.PlacedLines.{placed_at}
 use Rattle.plugin_notes.specs.PidPackets.{numbers_below, packets_on}
 use Rattle.plugin_notes.proofs.PidLemmas.{numbers_below_more, placed_at-append}
-use Rattle.plug_analyze.specs.AnalyzeRule.{analyze_rule, counts_on, pid_text, summary_on}
+use Rattle.plug_analyze.specs.AnalyzeRule.{counts_on, pid_text}
 
 -- the PIDs with one more looked at
 pub pids_more : (packets : List (List ℕ)) (pid n : ℕ) (pids pids_new : List ℕ) → n ≡ packets_on pid packets
@@ -32,20 +31,6 @@ pushed_after cut lines first second xs ys a b =
     b ∙ (ap (λ (ls : List Line). ls ++ placed_at cut ys) a
     ∙ (append_assoc lines (placed_at cut xs) (placed_at cut ys)
     ∙ ap (λ (ls : List Line). lines ++ ls) (sym (placed_at-append cut xs ys))))
-
--- a rule without lines has none
-placed_none : (history cells : List Cell) → placed_after analyze_rule history cells ≡ []
-placed_none history [] = refl
-placed_none history (Live packet labels ∷ cells) = placed_none (history ++ Live packet labels ∷ []) cells
-placed_none history (Dropped ∷ cells) = placed_none (history ++ Dropped ∷ []) cells
-
--- the report over the cells before a position
-pub report_is : (history : List Cell) (cut : ℕ) (lines : List Line) → cut ≤ length history → lines ≡ placed_at cut (summary_on (take cut history))
-    → lines ≡ placed_of analyze_rule (take cut history)
-report_is history cut lines within is =
-    is
-    ∙ (ap (λ (n : ℕ). placed_at n (summary_on (take cut history))) (sym (length-take-le cut history within))
-    ∙ ap (λ (ls : List Line). ls ++ placed_at (length (take cut history)) (summary_on (take cut history))) (sym (placed_none [] (take cut history))))
 
 -- the lines of PIDs with one more
 pub pid_more : (cells : List Cell) (cut : ℕ) (pids : List ℕ) (i pid : ℕ) (before lines lines_new : List Line) (text : List ℕ) → i < length pids → pid ≡ get_or pids i 0

@@ -107,4 +107,5 @@ analyze_rule = record {
   lines_of = λ _ _ _. [];
   summary_of = λ history. summary_on history;
   agrees = λ _. false;
+  has_fault = λ _. false;
 }

@@ -7,3 +7,4 @@ pub mod AnalyzeStands
 pub mod AnalyzeWords
 pub mod ServicesKept
 pub mod TotalsOf
+pub mod AnalyzeEntry

@@ -26,9 +26,10 @@ changes_from k (change ∷ changes) = if nat_lt change.at k then changes_from k 
 abbrev pub place_of_change : Change → ℕ
 place_of_change change = change.at
 
--- the changes have the services in force at each position from the mark on
+-- the services are those in force at the mark, and the changes have those at each position from it on
 pub record KeepsServices (services : List ServiceCount) (changes : List Change) (history : List Cell) (mark : ℕ) : Type 0 where
   pub marked : mark ≤ length history
+  pub now : services ≡ services_at mark history
   pub early : All (λ change. change.at < length history) changes
   pub each : (k : ℕ) → mark ≤ k → k ≤ length history → services_below k services changes ≡ services_at k history
 

@@ -13,7 +13,7 @@ use plug_psi::FailureLatch;
 use plugin_notes::LastPackets;
 use plugin_trait::{Line, Outcome, Plugin};
 use std::alloc::{AllocError, Global};
-use ts_packet::{Cell, Packet};
+use ts_packet::{Labels, Packet};
 
 /// Reports what the packets were, by PID, and which services were in force.
 ///
@@ -24,7 +24,6 @@ pub struct Analyze {
     noted: Noted,
     services: Services,
     failed: FailureLatch,
-    alloc: Global,
 }
 
 impl Analyze {
@@ -53,7 +52,6 @@ impl Analyze {
             noted: Noted::new(alloc, buffer)?,
             services: Services::new(alloc, buffer)?,
             failed: FailureLatch::unset(),
-            alloc,
         })
     }
 
@@ -109,8 +107,8 @@ impl Plugin for Analyze {
     ghost use Rattle.ts_packet.specs.Cells.{Dropped, Live};
     ghost use Rattle.ts_packet.specs.Header.{pid_of};
     ghost use Rattle.chain_model.specs.declared.positions.TheConstants.{POSITION_LIMIT};
-    ghost use Rattle.plugin_trait.specs.Marks.{AllowsMark, Notes};
-    ghost use Rattle.plugin_trait.specs.Steps.{HasRoom, Meets, MeetsCells, Tells};
+    ghost use Rattle.plugin_trait.specs.Marks.{AllowsMark, GivesLines};
+    ghost use Rattle.plugin_trait.specs.Steps.{HasRoom, Meets, MeetsCells, Tells, left_of};
     ghost use Rattle.plug_analyze.specs.AnalyzeRule.{analyze_rule};
     ghost use Rattle.plug_analyze.specs.AnalyzeStands.{HasNoteRoom, MeetsHistory, StandsFor, has_failed, may_come, room_for_changes, room_for_notes, steady_of};
 
@@ -125,34 +123,41 @@ impl Plugin for Analyze {
     /// failed, and the room for notes and for changes stays the same.
     // Inlined, since else the loop of `steps` makes a call for each cell.
     #[inline(always)]
-    fn step(&mut self, at: u64, cell: &mut Cell) -> Outcome
+    fn step(&mut self, at: u64, packet: &mut Packet, _labels: &mut Labels) -> Outcome
         requires met { MeetsCells (MeetsHistory self.old) at }
         requires in_range { at < POSITION_LIMIT }
-        ensures tells { Tells analyze_rule (MeetsHistory self.old) at cell.old result cell.new }
-        ensures dropped { cell.old ≡ Dropped → result ≡ Outcome.Pass }
-        ensures meets { Meets (MeetsHistory self.old) (MeetsHistory self.new) at cell.old result }
+        ensures tells { Tells analyze_rule (MeetsHistory self.old) at (Live packet.old _labels.old) result
+            (left_of result packet.new _labels.new) }
+        ensures meets { Meets (MeetsHistory self.old) (MeetsHistory self.new) at (Live packet.old _labels.old) result }
         ensures same_steady { steady_of self.new ≡ steady_of self.old }
         ensures room { HasRoom (steady_of self.old) (MeetsHistory self.old) at → result ≢ Outcome.NoMemory }
-        ensures quiet { (history : List GivenCell) (mark labels : ℕ) (packet : List ℕ) → has_failed self.old ≡ false → StandsFor self.old history mark
-            → cell.old ≡ Live packet labels → may_come (pid_of packet) history ≡ false → HasNoteRoom self.old → result ≢ Outcome.NoMemory }
+        ensures quiet { (history : List GivenCell) (mark : ℕ) → has_failed self.old ≡ false → StandsFor self.old history mark
+            → may_come (pid_of packet.old) history ≡ false → HasNoteRoom self.old → result ≢ Outcome.NoMemory }
         ensures spent { result ≡ Outcome.NoMemory → has_failed self.new ≡ true }
         ensures reserved_notes { room_for_notes self.new ≡ room_for_notes self.old }
         ensures reserved_changes { room_for_changes self.new ≡ room_for_changes self.old }
     {
-        let Some(live) = cell.live() else {
-            return Outcome::Pass;
-        };
-        match self.meet(at, &live.packet) {
+        match self.meet(at, packet) {
             Ok(()) => Outcome::Pass,
             Err(_) => Outcome::NoMemory,
         }
     }
 
+    /// The clauses are those of `Plugin`, and one more: the plugin stays as it was.
+    #[inline(always)]
+    fn pass_over(&mut self, at: u64)
+        requires met { MeetsCells (MeetsHistory self.old) at }
+        requires in_range { at < POSITION_LIMIT }
+        ensures meets { Meets (MeetsHistory self.old) (MeetsHistory self.new) at Dropped Outcome.Pass }
+        ensures same { self.new ≡ self.old }
+    {}
+
     /// The clauses are those of `Plugin`, and three more: it makes no plugin fail, and the room for notes and for
     /// changes stays the same.
-    fn note(&mut self, written: u64) -> Result<(), AllocError>
+    fn note(&mut self, written: u64, _lines: &mut Vec<Line>) -> Result<(), AllocError>
         requires { AllowsMark (MeetsHistory self.old) written }
-        ensures notes { Notes (MeetsHistory self.old) (MeetsHistory self.new) written result }
+        ensures gives { GivesLines analyze_rule (MeetsHistory self.old) (MeetsHistory self.new) written
+            _lines.old.items _lines.new.items result }
         ensures same_steady { steady_of self.new ≡ steady_of self.old }
         ensures room { IsSome (steady_of self.old) → IsOk result }
         ensures whole { has_failed self.new ≡ has_failed self.old }
@@ -171,18 +176,14 @@ impl Plugin for Analyze {
         false
     }
 
-    fn finish(&mut self, cut: u64) -> Result<Vec<Line>, AllocError> {
+    fn summary(&self, at: u64, lines: &mut Vec<Line>) -> Result<(), AllocError> {
         self.failed.check()?;
-        self.noted.fold_below(cut);
-        self.services.fold_below(cut);
-        let mut lines = Vec::new(self.alloc);
-        push_summary(
-            &mut lines,
-            cut,
-            self.noted.totals(),
-            self.services.as_slice(),
-        )?;
-        Ok(lines)
+        push_summary(lines, at, self.noted.totals(), self.services.as_slice())?;
+        Ok(())
+    }
+
+    fn has_fault(&self, _cut: u64) -> bool {
+        false
     }
 
     ghost starts_open = { λ plugin history mark stands. refl };

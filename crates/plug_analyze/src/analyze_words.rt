@@ -1,27 +1,42 @@
 //! The options of `analyze`: there are none.
-ghost use Rattle.std.specs.Prelude.{◌≡◌, IfOk};
-ghost use Rattle.clap.specs.Simple.{app_of};
-ghost use Rattle.plug_analyze.specs.AnalyzeSettings.{IsLawfulAnalyze};
-ghost use Rattle.plug_analyze.specs.AnalyzeWords.{analyze, analyze_rows};
-ghost use Rattle.option_words.specs.Options.{command_of};
-ghost use Rattle.option_words.specs.Refusal.{ReadsParsed};
 
 use crate::analyze_conf::AnalyzeConf;
-use clap::Command;
-use option_words::{ParsedOptions, Refusal, new_command};
-use std::alloc::{AllocError, Global};
+use option_words::{OptionRow, ParsedOptions, Refusal};
+use plugin_entry::{PluginHelp, PluginSettings};
+use std::alloc::Global;
 
-/// The command of `analyze`, which has no options.
-pub fn analyze_command<'a>(alloc: Global) -> Result<Command<'a>, AllocError>
-    ensures { IfOk result (λ c. app_of c ≡ command_of analyze_rows) }
-{
-    Ok(new_command(alloc))
-}
+impl PluginSettings for AnalyzeConf {
+    ghost use Rattle.std.specs.Prelude.{refl};
+    ghost use Rattle.plug_analyze.specs.AnalyzeEntry.{analyze_entry};
 
-/// Reads the settings of `analyze` from what its command found in the words. There is nothing to read.
-pub fn analyze_settings(_alloc: Global, _found: &ParsedOptions) -> Result<AnalyzeConf, Refusal>
-    ensures reads { ReadsParsed analyze _found.now result }
-    ensures lawful { IfOk result IsLawfulAnalyze }
-{
-    Ok(AnalyzeConf {})
+    ghost entry = { analyze_entry };
+
+    fn name() -> &'static str {
+        "analyze"
+    }
+
+    fn options() -> &'static [OptionRow<'static>] {
+        &[]
+    }
+
+    fn help() -> PluginHelp {
+        PluginHelp {
+            usage: "-P analyze",
+            rule: "At the end there is a line for each PID, with its packets, those with a payload, those that are scrambled, its counter faults and its PCRs, and one for each service of the PAT, with its number, its PMT's PID and the number of its components. Every packet passes.",
+        }
+    }
+
+    fn read(_alloc: Global, _found: &ParsedOptions) -> Result<AnalyzeConf, Refusal> {
+        Ok(AnalyzeConf {})
+    }
+
+    fn table_file(&self) -> Option<&str> {
+        None
+    }
+
+    fn uses_joint_termination(&self) -> bool {
+        false
+    }
+
+    ghost simple = { refl };
 }

@@ -18,6 +18,5 @@ mod totals;
 
 pub use analyze::Analyze;
 pub use analyze_conf::AnalyzeConf;
-pub use analyze_words::{analyze_command, analyze_settings};
 pub use pid_counts::PidCounts;
 pub use service_count::ServiceCount;

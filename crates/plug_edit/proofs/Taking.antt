@@ -8,6 +8,7 @@ use Rattle.ts_packet.specs.declared.numbers.TheConstants.{NULL_PID}
 use Rattle.ts_packet.specs.Header.{pid_of}
 use Rattle.ts_demux.specs.TakenWhere.{taken_on}
 use Rattle.ts_demux.proofs.TakenLemmas.{taken-filter, taken-more, with_if}
+use Rattle.plugin_trait.specs.Unmarked.{unmarked}
 use Rattle.plug_psi.specs.Edits.{Change}
 use Rattle.plug_psi.specs.EditorStands.{StandsFor, has_failed}
 use Rattle.plug_psi.specs.declared.editor.Editor.{Editor}
@@ -48,27 +49,27 @@ own-more pid history packet labels e = one-more pid history packet labels ∙ ap
 marked : (mark : ℕ) (history : List Cell) (cell : Cell) → mark ≤ length history → mark ≤ length (history ++ cell ∷ [])
 marked mark history cell h = omega (arith, h, length-append history (cell ∷ []))
 
--- what a plugin around an editor stands for
+-- what the steps around an editor stand for
 abbrev Stands : {E : Type 0} → (List (List ℕ) → Change) → Editor E → ℕ → List Cell → ℕ → Type 0
-Stands change editor pid history mark = (has_failed editor ≡ false → pid < NULL_PID → StandsFor change editor pid (taken_of pid history)) × (mark ≤ length history)
+Stands change editor pid = unmarked (λ history. has_failed editor ≡ false → pid < NULL_PID → StandsFor change editor pid (taken_of pid history))
 
 pub meets_other :
-    {E : Type 0} (change : List (List ℕ) → Change) (editor : Editor E) (pid mark : ℕ) (history : List Cell) (cell : Cell) (packet : List ℕ) (labels : ℕ) →
-    cell ≡ Live packet labels → is_taken pid packet ≡ false → Stands change editor pid history mark → Stands change editor pid (history ++ cell ∷ []) mark
-meets_other change editor pid mark history cell packet labels is e s = (
-  λ works below. subst (StandsFor change editor pid) (sym (ap (λ x. taken_of pid (history ++ x ∷ [])) is ∙ other-more pid history packet labels e)) (s.0 works below),
-  marked mark history cell s.1,
+    {E : Type 0} (change : List (List ℕ) → Change) (editor : Editor E) (pid mark : ℕ) (history : List Cell) (packet : List ℕ) (labels : ℕ) →
+    is_taken pid packet ≡ false → Stands change editor pid history mark → Stands change editor pid (history ++ Live packet labels ∷ []) mark
+meets_other change editor pid mark history packet labels e s = (
+  λ works below. subst (StandsFor change editor pid) (sym (other-more pid history packet labels e)) (s.0 works below),
+  marked mark history (Live packet labels) s.1,
 )
 
 pub meets_taken :
-    {E : Type 0} (change change' : List (List ℕ) → Change) (old new : Editor E) (pid mark : ℕ) (history : List Cell) (cell : Cell) (packet : List ℕ) (labels : ℕ) →
-    cell ≡ Live packet labels → is_taken pid packet ≡ true → pid < NULL_PID → change ≡ change' → has_failed old ≡ false →
+    {E : Type 0} (change change' : List (List ℕ) → Change) (old new : Editor E) (pid mark : ℕ) (history : List Cell) (packet : List ℕ) (labels : ℕ) →
+    is_taken pid packet ≡ true → pid < NULL_PID → change ≡ change' → has_failed old ≡ false →
     ((q : ℕ) (taken : List (List ℕ)) → StandsFor change old q taken → StandsFor change new q (taken ++ packet ∷ [])) →
-    Stands change old pid history mark → Stands change' new pid (history ++ cell ∷ []) mark
-meets_taken change change' old new pid mark history cell packet labels is e below same works step s = (
-  λ _ _. subst (λ c. StandsFor c new pid (taken_of pid (history ++ cell ∷ []))) same
-      (subst (StandsFor change new pid) (sym (ap (λ x. taken_of pid (history ++ x ∷ [])) is ∙ own-more pid history packet labels e)) (step pid (taken_of pid history) (s.0 works below))),
-  marked mark history cell s.1,
+    Stands change old pid history mark → Stands change' new pid (history ++ Live packet labels ∷ []) mark
+meets_taken change change' old new pid mark history packet labels e below same works step s = (
+  λ _ _. subst (λ c. StandsFor c new pid (taken_of pid (history ++ Live packet labels ∷ []))) same
+      (subst (StandsFor change new pid) (sym (own-more pid history packet labels e)) (step pid (taken_of pid history) (s.0 works below))),
+  marked mark history (Live packet labels) s.1,
 )
 
 pub not_true : (b : Bool) → (b ≡ true → false ≡ true) → b ≡ false

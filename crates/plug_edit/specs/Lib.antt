@@ -23,3 +23,8 @@ pub mod CatWords
 pub mod PmtWords
 pub mod SdtWords
 pub mod NitWords
+pub mod CatEntry
+pub mod NitEntry
+pub mod PatEntry
+pub mod PmtEntry
+pub mod SdtEntry

@@ -1,10 +1,13 @@
 //! The plugin `cat`.
 
+ghost use Rattle.std.specs.Prelude.{◌≡◌, [], None, IfOk};
+ghost use Rattle.plug_edit.specs.Changes.{change_cat};
+ghost use Rattle.plug_edit.specs.EditRule.{edit_rule};
 ghost use Rattle.plug_edit.specs.CatSettings.{IsLawfulCat};
 
 use crate::cat_conf::EditCatConf;
 use crate::cat_edit::edit_cat;
-use crate::edit_pid::EditPid;
+use crate::edit_pid::{EditPid, new_edit_pid};
 use plug_psi::{Current, EditsTable};
 use plugin_trait::Plugin;
 use std::alloc::{AllocError, Global};
@@ -33,28 +36,22 @@ impl EditsTable for CatEdit {
 /// The plugin `cat`, which edits the CAT on PID 1.
 pub type EditCat = EditPid<Current<CatEdit>>;
 
-impl EditPid<Current<CatEdit>> {
-    ghost use Rattle.std.specs.Prelude.{◌≡◌, [], None, IfOk};
-    ghost use Rattle.plug_edit.specs.Changes.{change_cat};
-    ghost use Rattle.plug_edit.specs.EditRule.{edit_rule};
-
-    /// A new plugin, which has processed no cell. It keeps a copy of the settings; its steps allocate memory.
-    pub fn new(
-        alloc: Global,
-        conf: &EditCatConf,
-        _buffer: usize,
-    ) -> Result<EditPid<Current<CatEdit>>, AllocError>
-        requires { IsLawfulCat conf.now }
-        ensures rule { IfOk result (λ plugin. ⟦<EditPid<Current<CatEdit>> as Plugin>⟧.rule plugin ≡ edit_rule 1 (change_cat conf.now)) }
-        ensures fresh { IfOk result (λ plugin. ⟦<EditPid<Current<CatEdit>> as Plugin>⟧.stands_for plugin [] 0) }
-        ensures steady { IfOk result (λ plugin. ⟦<EditPid<Current<CatEdit>> as Plugin>⟧.steady plugin ≡ None) }
-    {
-        let edit = Current {
-            edit: CatEdit {
-                conf: conf.copy(alloc)?,
-            },
-        };
-        let plugin = EditPid::over(alloc, 1, edit)?;
-        Ok(plugin)
-    }
+/// A new `cat`, which has processed no packet. It keeps a copy of the settings; its steps allocate memory.
+pub fn new_edit_cat(
+    alloc: Global,
+    conf: &EditCatConf,
+    _buffer: usize,
+) -> Result<EditCat, AllocError>
+    requires { IsLawfulCat conf.now }
+    ensures rule { IfOk result (λ plugin. ⟦<EditCat as Plugin>⟧.rule plugin ≡ edit_rule 1 (change_cat conf.now)) }
+    ensures fresh { IfOk result (λ plugin. ⟦<EditCat as Plugin>⟧.stands_for plugin [] 0) }
+    ensures steady { IfOk result (λ plugin. ⟦<EditCat as Plugin>⟧.steady plugin ≡ None) }
+{
+    let edit = Current {
+        edit: CatEdit {
+            conf: conf.copy(alloc)?,
+        },
+    };
+    let plugin = new_edit_pid(alloc, 1, edit)?;
+    Ok(plugin)
 }

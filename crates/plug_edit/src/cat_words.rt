@@ -2,14 +2,13 @@
 
 ghost use Rattle.std.specs.Prelude.{◌≡◌, IfOk, MatchResult, codes, false, true};
 ghost use Rattle.std.specs.List.{All};
-ghost use Rattle.clap.specs.Simple.{app_of};
 ghost use Rattle.option_words.specs.Forms.{pairs};
-ghost use Rattle.option_words.specs.Options.{command_of, is_formed};
+ghost use Rattle.option_words.specs.Options.{is_formed};
 ghost use Rattle.option_words.specs.Refusal.{IsRefusedBy, ReadsParsed};
 ghost use Rattle.option_words.specs.declared.words_rule.WordsRule.TheVariants.{Value};
 ghost use Rattle.plug_conf.specs.declared.limits.TheConstants.{LAST_PID};
 ghost use Rattle.plug_edit.specs.CatSettings.{IsAddedCa, IsLawfulCat};
-ghost use Rattle.plug_edit.specs.CatWords.{cat, cat_rows};
+ghost use Rattle.plug_edit.specs.CatWords.{cat};
 ghost use Rattle.plug_edit.specs.EditWords.{pairs_found, slash};
 ghost use Rattle.plug_edit.specs.declared.limits.TheConstants.{LAST_ID};
 
@@ -17,26 +16,64 @@ use crate::cat_conf::EditCatConf;
 use crate::edit_words::number_up_to;
 use crate::limits::{LAST_ID, LAST_VERSION};
 use crate::versions::versions_agree;
-use clap::Command;
-use option_words::{OptionWord, ParsedOptions, Refusal, WordsRule, command_with};
+use option_words::{
+    Beside, Need, OptionRow, OptionText, OptionWord, ParsedOptions, Refusal, Sign, Takes, WordsRule,
+};
 use plug_conf::{LAST_PID, PairList};
-use std::alloc::{AllocError, Global};
+use plugin_entry::{PluginHelp, PluginSettings};
+use std::alloc::Global;
 
 // The options of `cat`.
-static CAT: [OptionWord; 5] = [
-    OptionWord::Value("add-ca"),
-    OptionWord::Value("remove-casid"),
-    OptionWord::Value("remove-pid"),
-    OptionWord::Value("new-version"),
-    OptionWord::Flag("increment-version"),
+static CAT: [OptionRow; 5] = [
+    OptionRow {
+        word: OptionWord::Value(
+            "add-ca",
+            Takes::Pairs(Sign::Slash, (0, LAST_ID), (0, LAST_PID)),
+        ),
+        text: OptionText {
+            value: "SYS/PID,..",
+            meaning: "SYS 0 to 65535, PID 0 to 8191: put a CA descriptor of that system and EMM PID last",
+            need: Need::Free,
+            beside: Beside::Any,
+        },
+    },
+    OptionRow {
+        word: OptionWord::Value("remove-casid", Takes::Ranges(LAST_ID)),
+        text: OptionText {
+            value: "LIST",
+            meaning: "0 to 65535: leave out the CA descriptors of these systems",
+            need: Need::Free,
+            beside: Beside::Any,
+        },
+    },
+    OptionRow {
+        word: OptionWord::Value("remove-pid", Takes::Ranges(LAST_PID)),
+        text: OptionText {
+            value: "LIST",
+            meaning: "0 to 8191: leave out the CA descriptors of these PIDs",
+            need: Need::Free,
+            beside: Beside::Any,
+        },
+    },
+    OptionRow {
+        word: OptionWord::Value("new-version", Takes::Number(0, LAST_VERSION)),
+        text: OptionText {
+            value: "N",
+            meaning: "0 to 31: set the version",
+            need: Need::Free,
+            beside: Beside::Choice(1),
+        },
+    },
+    OptionRow {
+        word: OptionWord::Flag("increment-version"),
+        text: OptionText {
+            value: "",
+            meaning: "count the version on, from 31 to 0",
+            need: Need::Free,
+            beside: Beside::Choice(1),
+        },
+    },
 ];
-
-/// The command of `cat`, which has its options.
-pub fn cat_command<'a>(alloc: Global) -> Result<Command<'a>, AllocError>
-    ensures { IfOk result (λ c. app_of c ≡ command_of cat_rows) }
-{
-    command_with(alloc, &CAT)
-}
 
 // The CA descriptors that are added.
 fn added_systems(alloc: Global, found: &ParsedOptions) -> Result<PairList, Refusal>
@@ -49,8 +86,8 @@ fn added_systems(alloc: Global, found: &ParsedOptions) -> Result<PairList, Refus
     found.pair_list(alloc, "add-ca", '/', (0, LAST_ID), (0, LAST_PID))
 }
 
-/// Reads the settings of `cat` from what its command found in the words.
-pub fn cat_settings(alloc: Global, found: &ParsedOptions) -> Result<EditCatConf, Refusal>
+// Reads the settings of `cat` from what its command found in the words.
+fn cat_settings(alloc: Global, found: &ParsedOptions) -> Result<EditCatConf, Refusal>
     ensures reads { ReadsParsed cat found.now result }
     ensures lawful { IfOk result IsLawfulCat }
 {
@@ -69,4 +106,40 @@ pub fn cat_settings(alloc: Global, found: &ParsedOptions) -> Result<EditCatConf,
         new_version,
         increment_version,
     })
+}
+
+impl PluginSettings for EditCatConf {
+    ghost use Rattle.std.specs.Prelude.{refl};
+    ghost use Rattle.plug_edit.specs.CatEntry.{cat_entry};
+
+    ghost entry = { cat_entry };
+
+    fn name() -> &'static str {
+        "cat"
+    }
+
+    fn options() -> &'static [OptionRow<'static>] {
+        &CAT
+    }
+
+    fn help() -> PluginHelp {
+        PluginHelp {
+            usage: "-P cat [--add-ca SYS/PID,..] [--remove-casid LIST] [--remove-pid LIST] [--new-version N | --increment-version]",
+            rule: "Each packet on PID 1 becomes the next packet of the edited CAT, or a null packet until a table is known. What is left out comes first, then what is put in, and then the version. A stream without a CAT gets none. A table that changes without a new version is written on as it was first.",
+        }
+    }
+
+    fn read(alloc: Global, found: &ParsedOptions) -> Result<EditCatConf, Refusal> {
+        cat_settings(alloc, found)
+    }
+
+    fn table_file(&self) -> Option<&str> {
+        None
+    }
+
+    fn uses_joint_termination(&self) -> bool {
+        false
+    }
+
+    ghost simple = { refl };
 }

@@ -4,38 +4,45 @@ ghost use Rattle.std.specs.Prelude.{◌≡◌, ◌≤◌, [], None, IfOk};
 ghost use Rattle.plug_edit.specs.EditRule.{edit_rule};
 
 use plug_psi::{Changes, Editor, TableEdit, Unedited};
-use plugin_trait::{Line, Outcome, Plugin, silent_report};
+use plugin_trait::{Outcome, Plugin, Silent, Steps};
 use std::alloc::{AllocError, Global};
-use ts_packet::{Cell, NULL_PID};
+use ts_packet::{Labels, NULL_PID, Packet};
 
-/// Replaces the packets of a PID by packets of cycles of the PID's edited contents.
+/// The steps of `EditPid`.
 ///
 /// A step on the PID may run out of memory, and then every later step on it does too.
 #[derive(Drop)]
-pub struct EditPid<E: TableEdit + Drop> {
+pub struct EditPidSteps<E: TableEdit + Drop> {
     pid: u16,
     /// It is not used if the PID is that of null packets.
     editor: Editor<E>,
-    alloc: Global,
 }
 
-impl<E: TableEdit + Drop> EditPid<E> {
-    /// A new plugin, which has processed no cell. On PID 8191 nothing is edited.
-    #[tactic(auto, unfolding(ts_demux::specs::TakenWhere::taken_behind))]
-    pub fn over(alloc: Global, pid: u16, edit: E) -> Result<EditPid<E>, AllocError>
-        requires { pid ≤ NULL_PID }
-        ensures rule { IfOk result (λ plugin. ⟦<EditPid<E> as Plugin>⟧.rule plugin ≡ edit_rule pid (E.change edit)) }
-        ensures fresh { IfOk result (λ plugin. ⟦<EditPid<E> as Plugin>⟧.stands_for plugin [] 0) }
-        ensures steady { IfOk result (λ plugin. ⟦<EditPid<E> as Plugin>⟧.steady plugin ≡ None) }
-    {
-        let edited = if pid < NULL_PID { pid } else { 0 };
-        Ok(EditPid {
+/// Replaces the packets of a PID by packets of cycles of the PID's edited contents.
+pub type EditPid<E> = Silent<EditPidSteps<E>>;
+
+/// A new plugin, which has processed no packet. On PID 8191 nothing is edited.
+#[tactic(auto, unfolding(ts_demux::specs::TakenWhere::taken_behind))]
+pub fn new_edit_pid<E: TableEdit + Drop>(
+    alloc: Global,
+    pid: u16,
+    edit: E,
+) -> Result<EditPid<E>, AllocError>
+    requires { pid ≤ NULL_PID }
+    ensures rule { IfOk result (λ plugin. ⟦<EditPid<E> as Plugin>⟧.rule plugin ≡ edit_rule pid (E.change edit)) }
+    ensures fresh { IfOk result (λ plugin. ⟦<EditPid<E> as Plugin>⟧.stands_for plugin [] 0) }
+    ensures steady { IfOk result (λ plugin. ⟦<EditPid<E> as Plugin>⟧.steady plugin ≡ None) }
+{
+    let edited = if pid < NULL_PID { pid } else { 0 };
+    Ok(Silent {
+        steps: EditPidSteps {
             pid,
             editor: Editor::new(alloc, edited, edit)?,
-            alloc,
-        })
-    }
+        },
+    })
+}
 
+impl<E: TableEdit + Drop> EditPidSteps<E> {
     /// Why nothing was edited; `None` where the edit makes other sections of the last tables of the PID.
     pub fn unedited(&self) -> Result<Option<Unedited>, AllocError> {
         self.editor.unedited(self.pid)
@@ -47,48 +54,39 @@ impl<E: TableEdit + Drop> EditPid<E> {
     }
 }
 
-impl<E: TableEdit + Drop> Plugin for EditPid<E> {
-    ghost use Rattle.std.specs.Prelude.{◌≡◌, ◌<◌, ◌≤◌, length, None, false, refl, true};
+impl<E: TableEdit + Drop> Steps for EditPidSteps<E> {
+    ghost use Rattle.std.specs.Prelude.{◌≡◌, ◌<◌, None, false, refl};
     ghost use Rattle.ts_packet.specs.declared.numbers.TheConstants.{NULL_PID};
     ghost use Rattle.plug_psi.specs.EditorStands.{StandsFor, edit_of, has_failed};
     ghost use Rattle.plug_edit.specs.EditRule.{edit_rule, taken_of};
 
     ghost rule = { λ s. edit_rule s.pid (E.change (edit_of s.editor)) };
 
-    ghost stands_for = { λ s history mark. (has_failed s.editor ≡ false → s.pid < NULL_PID
-        → StandsFor (E.change (edit_of s.editor)) s.editor s.pid (taken_of s.pid history)) × (mark ≤ length history) };
+    ghost stands_for = { λ s history. has_failed s.editor ≡ false → s.pid < NULL_PID
+        → StandsFor (E.change (edit_of s.editor)) s.editor s.pid (taken_of s.pid history) };
 
-    ghost steady = { λ s. None };
+    ghost steady = { λ _. None };
 
-    ghost silent = { λ _. true };
-
-    fn step(&mut self, at: u64, cell: &mut Cell) -> Outcome {
-        let Some(live) = cell.live_mut() else {
-            return Outcome::Pass;
-        };
-        if live.packet.pid() != self.pid {
+    fn step(&mut self, at: u64, packet: &mut Packet, _labels: &mut Labels) -> Outcome {
+        if packet.pid() != self.pid {
             return Outcome::Pass;
         }
         if self.pid >= NULL_PID {
             return Outcome::Pass;
         }
-        match self.editor.step(at, &mut live.packet) {
+        match self.editor.step(at, packet) {
             Ok(()) => Outcome::Pass,
             Err(_) => Outcome::NoMemory,
         }
     }
 
-    fn note(&mut self, _written: u64) -> Result<(), AllocError> {
-        Ok(())
-    }
+    fn pass_over(&mut self, _at: u64) {}
 
-    fn agreed(&self) -> bool {
+    fn has_fault(&self, _cut: u64) -> bool {
         false
     }
 
-    fn finish(&mut self, _cut: u64) -> Result<Vec<Line>, AllocError> {
-        Ok(silent_report(self.alloc))
-    }
+    ghost quiet = { λ plugin. record { no_lines = λ history packet labels. refl; no_summary = λ history. refl } };
 
-    ghost starts_open = { λ plugin history mark stands. refl };
+    ghost never_agrees = { λ plugin history. refl };
 }

@@ -1,8 +1,11 @@
 //! The plugin `nit`.
 
+ghost use Rattle.std.specs.Prelude.{◌≡◌, [], None, IfOk};
+ghost use Rattle.plug_edit.specs.Changes.{change_nit};
+ghost use Rattle.plug_edit.specs.EditRule.{edit_rule};
 ghost use Rattle.plug_edit.specs.NitSettings.{IsLawfulNit};
 
-use crate::edit_pid::EditPid;
+use crate::edit_pid::{EditPid, new_edit_pid};
 use crate::nit_conf::EditNitConf;
 use crate::nit_edit::edit_nit;
 use plug_psi::{Current, EditsTable};
@@ -37,28 +40,22 @@ impl EditsTable for NitEdit {
 /// The plugin `nit`, which edits the NIT of the actual network on PID 16.
 pub type EditNit = EditPid<Current<NitEdit>>;
 
-impl EditPid<Current<NitEdit>> {
-    ghost use Rattle.std.specs.Prelude.{◌≡◌, [], None, IfOk};
-    ghost use Rattle.plug_edit.specs.Changes.{change_nit};
-    ghost use Rattle.plug_edit.specs.EditRule.{edit_rule};
-
-    /// A new plugin, which has processed no cell. It keeps a copy of the settings; its steps allocate memory.
-    pub fn new(
-        alloc: Global,
-        conf: &EditNitConf,
-        _buffer: usize,
-    ) -> Result<EditPid<Current<NitEdit>>, AllocError>
-        requires { IsLawfulNit conf.now }
-        ensures rule { IfOk result (λ plugin. ⟦<EditPid<Current<NitEdit>> as Plugin>⟧.rule plugin ≡ edit_rule 16 (change_nit conf.now)) }
-        ensures fresh { IfOk result (λ plugin. ⟦<EditPid<Current<NitEdit>> as Plugin>⟧.stands_for plugin [] 0) }
-        ensures steady { IfOk result (λ plugin. ⟦<EditPid<Current<NitEdit>> as Plugin>⟧.steady plugin ≡ None) }
-    {
-        let edit = Current {
-            edit: NitEdit {
-                conf: conf.copy(alloc)?,
-            },
-        };
-        let plugin = EditPid::over(alloc, 16, edit)?;
-        Ok(plugin)
-    }
+/// A new `nit`, which has processed no packet. It keeps a copy of the settings; its steps allocate memory.
+pub fn new_edit_nit(
+    alloc: Global,
+    conf: &EditNitConf,
+    _buffer: usize,
+) -> Result<EditNit, AllocError>
+    requires { IsLawfulNit conf.now }
+    ensures rule { IfOk result (λ plugin. ⟦<EditNit as Plugin>⟧.rule plugin ≡ edit_rule 16 (change_nit conf.now)) }
+    ensures fresh { IfOk result (λ plugin. ⟦<EditNit as Plugin>⟧.stands_for plugin [] 0) }
+    ensures steady { IfOk result (λ plugin. ⟦<EditNit as Plugin>⟧.steady plugin ≡ None) }
+{
+    let edit = Current {
+        edit: NitEdit {
+            conf: conf.copy(alloc)?,
+        },
+    };
+    let plugin = new_edit_pid(alloc, 16, edit)?;
+    Ok(plugin)
 }

@@ -1,38 +1,71 @@
 //! The options of `nit`, and its settings from their values.
 
 ghost use Rattle.std.specs.Prelude.{◌≡◌, IfOk};
-ghost use Rattle.clap.specs.Simple.{app_of};
-ghost use Rattle.option_words.specs.Options.{command_of};
 ghost use Rattle.option_words.specs.Refusal.{ReadsParsed};
 ghost use Rattle.plug_edit.specs.NitSettings.{IsLawfulNit};
-ghost use Rattle.plug_edit.specs.NitWords.{nit, nit_rows};
+ghost use Rattle.plug_edit.specs.NitWords.{nit};
 
 use crate::edit_words::number_up_to;
 use crate::limits::{LAST_ID, LAST_VERSION};
 use crate::nit_conf::EditNitConf;
 use crate::versions::versions_agree;
-use clap::Command;
-use option_words::{OptionWord, ParsedOptions, Refusal, WordsRule, command_with};
-use std::alloc::{AllocError, Global};
+use option_words::{
+    Beside, Need, OptionRow, OptionText, OptionWord, ParsedOptions, Refusal, Takes, WordsRule,
+};
+use plugin_entry::{PluginHelp, PluginSettings};
+use std::alloc::Global;
 
 // The options of `nit`.
-static NIT: [OptionWord; 5] = [
-    OptionWord::Value("remove-ts"),
-    OptionWord::Value("network-id"),
-    OptionWord::Value("network-name"),
-    OptionWord::Value("new-version"),
-    OptionWord::Flag("increment-version"),
+static NIT: [OptionRow; 5] = [
+    OptionRow {
+        word: OptionWord::Value("remove-ts", Takes::Ranges(LAST_ID)),
+        text: OptionText {
+            value: "LIST",
+            meaning: "0 to 65535: leave out these transport streams",
+            need: Need::Free,
+            beside: Beside::Any,
+        },
+    },
+    OptionRow {
+        word: OptionWord::Value("network-id", Takes::Number(0, LAST_ID)),
+        text: OptionText {
+            value: "N",
+            meaning: "0 to 65535: set network_id",
+            need: Need::Free,
+            beside: Beside::Any,
+        },
+    },
+    OptionRow {
+        word: OptionWord::Value("network-name", Takes::Text),
+        text: OptionText {
+            value: "TEXT",
+            meaning: "put a network name descriptor in the place of the first, or last",
+            need: Need::Free,
+            beside: Beside::Any,
+        },
+    },
+    OptionRow {
+        word: OptionWord::Value("new-version", Takes::Number(0, LAST_VERSION)),
+        text: OptionText {
+            value: "N",
+            meaning: "0 to 31: set the version",
+            need: Need::Free,
+            beside: Beside::Choice(1),
+        },
+    },
+    OptionRow {
+        word: OptionWord::Flag("increment-version"),
+        text: OptionText {
+            value: "",
+            meaning: "count the version on, from 31 to 0",
+            need: Need::Free,
+            beside: Beside::Choice(1),
+        },
+    },
 ];
 
-/// The command of `nit`, which has its options.
-pub fn nit_command<'a>(alloc: Global) -> Result<Command<'a>, AllocError>
-    ensures { IfOk result (λ c. app_of c ≡ command_of nit_rows) }
-{
-    command_with(alloc, &NIT)
-}
-
-/// Reads the settings of `nit` from what its command found in the words.
-pub fn nit_settings(alloc: Global, found: &ParsedOptions) -> Result<EditNitConf, Refusal>
+// Reads the settings of `nit` from what its command found in the words.
+fn nit_settings(alloc: Global, found: &ParsedOptions) -> Result<EditNitConf, Refusal>
     ensures reads { ReadsParsed nit found.now result }
     ensures lawful { IfOk result IsLawfulNit }
 {
@@ -51,4 +84,40 @@ pub fn nit_settings(alloc: Global, found: &ParsedOptions) -> Result<EditNitConf,
         new_version,
         increment_version,
     })
+}
+
+impl PluginSettings for EditNitConf {
+    ghost use Rattle.std.specs.Prelude.{refl};
+    ghost use Rattle.plug_edit.specs.NitEntry.{nit_entry};
+
+    ghost entry = { nit_entry };
+
+    fn name() -> &'static str {
+        "nit"
+    }
+
+    fn options() -> &'static [OptionRow<'static>] {
+        &NIT
+    }
+
+    fn help() -> PluginHelp {
+        PluginHelp {
+            usage: "-P nit [--remove-ts LIST] [--network-id N] [--network-name TEXT] [--new-version N | --increment-version]",
+            rule: "Each packet on PID 16 becomes the next packet of the edited NIT, or a null packet until a table is known. What is left out comes first, then the other options in this order, and then the version. A stream without a NIT gets none. A table that changes without a new version is written on as it was first.",
+        }
+    }
+
+    fn read(alloc: Global, found: &ParsedOptions) -> Result<EditNitConf, Refusal> {
+        nit_settings(alloc, found)
+    }
+
+    fn table_file(&self) -> Option<&str> {
+        None
+    }
+
+    fn uses_joint_termination(&self) -> bool {
+        false
+    }
+
+    ghost simple = { refl };
 }

@@ -1,8 +1,11 @@
 //! The plugin `pat`.
 
+ghost use Rattle.std.specs.Prelude.{◌≡◌, [], None, IfOk};
+ghost use Rattle.plug_edit.specs.Changes.{change_pat};
+ghost use Rattle.plug_edit.specs.EditRule.{edit_rule};
 ghost use Rattle.plug_edit.specs.PatSettings.{IsLawfulPat};
 
-use crate::edit_pid::EditPid;
+use crate::edit_pid::{EditPid, new_edit_pid};
 use crate::pat_conf::EditPatConf;
 use crate::pat_edit::edit_pat;
 use plug_psi::{Current, EditsTable};
@@ -34,28 +37,22 @@ impl EditsTable for PatEdit {
 /// The plugin `pat`, which edits the PAT on PID 0.
 pub type EditPat = EditPid<Current<PatEdit>>;
 
-impl EditPid<Current<PatEdit>> {
-    ghost use Rattle.std.specs.Prelude.{◌≡◌, [], None, IfOk};
-    ghost use Rattle.plug_edit.specs.Changes.{change_pat};
-    ghost use Rattle.plug_edit.specs.EditRule.{edit_rule};
-
-    /// A new plugin, which has processed no cell. It keeps a copy of the settings; its steps allocate memory.
-    pub fn new(
-        alloc: Global,
-        conf: &EditPatConf,
-        _buffer: usize,
-    ) -> Result<EditPid<Current<PatEdit>>, AllocError>
-        requires { IsLawfulPat conf.now }
-        ensures rule { IfOk result (λ plugin. ⟦<EditPid<Current<PatEdit>> as Plugin>⟧.rule plugin ≡ edit_rule 0 (change_pat conf.now)) }
-        ensures fresh { IfOk result (λ plugin. ⟦<EditPid<Current<PatEdit>> as Plugin>⟧.stands_for plugin [] 0) }
-        ensures steady { IfOk result (λ plugin. ⟦<EditPid<Current<PatEdit>> as Plugin>⟧.steady plugin ≡ None) }
-    {
-        let edit = Current {
-            edit: PatEdit {
-                conf: conf.copy(alloc)?,
-            },
-        };
-        let plugin = EditPid::over(alloc, 0, edit)?;
-        Ok(plugin)
-    }
+/// A new `pat`, which has processed no packet. It keeps a copy of the settings; its steps allocate memory.
+pub fn new_edit_pat(
+    alloc: Global,
+    conf: &EditPatConf,
+    _buffer: usize,
+) -> Result<EditPat, AllocError>
+    requires { IsLawfulPat conf.now }
+    ensures rule { IfOk result (λ plugin. ⟦<EditPat as Plugin>⟧.rule plugin ≡ edit_rule 0 (change_pat conf.now)) }
+    ensures fresh { IfOk result (λ plugin. ⟦<EditPat as Plugin>⟧.stands_for plugin [] 0) }
+    ensures steady { IfOk result (λ plugin. ⟦<EditPat as Plugin>⟧.steady plugin ≡ None) }
+{
+    let edit = Current {
+        edit: PatEdit {
+            conf: conf.copy(alloc)?,
+        },
+    };
+    let plugin = new_edit_pid(alloc, 0, edit)?;
+    Ok(plugin)
 }

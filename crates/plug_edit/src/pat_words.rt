@@ -2,42 +2,87 @@
 
 ghost use Rattle.std.specs.Prelude.{◌≡◌, IfOk, MatchResult, codes, false, true};
 ghost use Rattle.std.specs.List.{All};
-ghost use Rattle.clap.specs.Simple.{app_of};
 ghost use Rattle.option_words.specs.Forms.{pairs};
-ghost use Rattle.option_words.specs.Options.{command_of, is_formed};
+ghost use Rattle.option_words.specs.Options.{is_formed};
 ghost use Rattle.option_words.specs.Refusal.{IsRefusedBy, ReadsParsed};
 ghost use Rattle.option_words.specs.declared.words_rule.WordsRule.TheVariants.{Value};
 ghost use Rattle.plug_conf.specs.declared.limits.TheConstants.{LAST_PID};
 ghost use Rattle.plug_edit.specs.EditWords.{pairs_found, slash};
 ghost use Rattle.plug_edit.specs.PatSettings.{IsAddedService, IsLawfulPat};
-ghost use Rattle.plug_edit.specs.PatWords.{pat, pat_rows};
+ghost use Rattle.plug_edit.specs.PatWords.{pat};
 ghost use Rattle.plug_edit.specs.declared.limits.TheConstants.{LAST_ID};
 
 use crate::edit_words::number_up_to;
 use crate::limits::{LAST_ID, LAST_VERSION};
 use crate::pat_conf::EditPatConf;
 use crate::versions::versions_agree;
-use clap::Command;
-use option_words::{OptionWord, ParsedOptions, Refusal, WordsRule, command_with};
+use option_words::{
+    Beside, Need, OptionRow, OptionText, OptionWord, ParsedOptions, Refusal, Sign, Takes, WordsRule,
+};
 use plug_conf::{LAST_PID, PairList};
-use std::alloc::{AllocError, Global};
+use plugin_entry::{PluginHelp, PluginSettings};
+use std::alloc::Global;
 
 // The options of `pat`.
-static PAT: [OptionWord; 6] = [
-    OptionWord::Value("add-service"),
-    OptionWord::Value("remove-service"),
-    OptionWord::Value("ts-id"),
-    OptionWord::Value("nit"),
-    OptionWord::Value("new-version"),
-    OptionWord::Flag("increment-version"),
+static PAT: [OptionRow; 6] = [
+    OptionRow {
+        word: OptionWord::Value(
+            "add-service",
+            Takes::Pairs(Sign::Slash, (1, LAST_ID), (0, LAST_PID)),
+        ),
+        text: OptionText {
+            value: "ID/PID,..",
+            meaning: "ID 1 to 65535, PID 0 to 8191: put the service in the place of the first entry of its number, or last",
+            need: Need::Free,
+            beside: Beside::Any,
+        },
+    },
+    OptionRow {
+        word: OptionWord::Value("remove-service", Takes::RangesFrom(1, LAST_ID)),
+        text: OptionText {
+            value: "LIST",
+            meaning: "1 to 65535: leave out all entries of these services",
+            need: Need::Free,
+            beside: Beside::Any,
+        },
+    },
+    OptionRow {
+        word: OptionWord::Value("ts-id", Takes::Number(0, LAST_ID)),
+        text: OptionText {
+            value: "N",
+            meaning: "0 to 65535: set transport_stream_id",
+            need: Need::Free,
+            beside: Beside::Any,
+        },
+    },
+    OptionRow {
+        word: OptionWord::Value("nit", Takes::Number(0, LAST_PID)),
+        text: OptionText {
+            value: "PID",
+            meaning: "0 to 8191: set the network PID",
+            need: Need::Free,
+            beside: Beside::Any,
+        },
+    },
+    OptionRow {
+        word: OptionWord::Value("new-version", Takes::Number(0, LAST_VERSION)),
+        text: OptionText {
+            value: "N",
+            meaning: "0 to 31: set the version",
+            need: Need::Free,
+            beside: Beside::Choice(1),
+        },
+    },
+    OptionRow {
+        word: OptionWord::Flag("increment-version"),
+        text: OptionText {
+            value: "",
+            meaning: "count the version on, from 31 to 0",
+            need: Need::Free,
+            beside: Beside::Choice(1),
+        },
+    },
 ];
-
-/// The command of `pat`, which has its options.
-pub fn pat_command<'a>(alloc: Global) -> Result<Command<'a>, AllocError>
-    ensures { IfOk result (λ c. app_of c ≡ command_of pat_rows) }
-{
-    command_with(alloc, &PAT)
-}
 
 // The services that are added.
 fn added_services(alloc: Global, found: &ParsedOptions) -> Result<PairList, Refusal>
@@ -50,8 +95,8 @@ fn added_services(alloc: Global, found: &ParsedOptions) -> Result<PairList, Refu
     found.pair_list(alloc, "add-service", '/', (1, LAST_ID), (0, LAST_PID))
 }
 
-/// Reads the settings of `pat` from what its command found in the words.
-pub fn pat_settings(alloc: Global, found: &ParsedOptions) -> Result<EditPatConf, Refusal>
+// Reads the settings of `pat` from what its command found in the words.
+fn pat_settings(alloc: Global, found: &ParsedOptions) -> Result<EditPatConf, Refusal>
     ensures reads { ReadsParsed pat found.now result }
     ensures lawful { IfOk result IsLawfulPat }
 {
@@ -72,4 +117,40 @@ pub fn pat_settings(alloc: Global, found: &ParsedOptions) -> Result<EditPatConf,
         new_version,
         increment_version,
     })
+}
+
+impl PluginSettings for EditPatConf {
+    ghost use Rattle.std.specs.Prelude.{refl};
+    ghost use Rattle.plug_edit.specs.PatEntry.{pat_entry};
+
+    ghost entry = { pat_entry };
+
+    fn name() -> &'static str {
+        "pat"
+    }
+
+    fn options() -> &'static [OptionRow<'static>] {
+        &PAT
+    }
+
+    fn help() -> PluginHelp {
+        PluginHelp {
+            usage: "-P pat [--add-service ID/PID,..] [--remove-service LIST] [--ts-id N] [--nit PID] [--new-version N | --increment-version]",
+            rule: "Each packet on PID 0 becomes the next packet of the edited PAT, or a null packet until a table is known. What is left out comes first, then the other options in this order, and then the version. A table that changes without a new version is written on as it was first.",
+        }
+    }
+
+    fn read(alloc: Global, found: &ParsedOptions) -> Result<EditPatConf, Refusal> {
+        pat_settings(alloc, found)
+    }
+
+    fn table_file(&self) -> Option<&str> {
+        None
+    }
+
+    fn uses_joint_termination(&self) -> bool {
+        false
+    }
+
+    ghost simple = { refl };
 }

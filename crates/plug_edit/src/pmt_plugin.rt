@@ -1,8 +1,11 @@
 //! The plugin `pmt`.
 
+ghost use Rattle.std.specs.Prelude.{◌≡◌, [], None, IfOk};
+ghost use Rattle.plug_edit.specs.Changes.{change_pmt};
+ghost use Rattle.plug_edit.specs.EditRule.{edit_rule};
 ghost use Rattle.plug_edit.specs.PmtSettings.{IsLawfulPmt};
 
-use crate::edit_pid::EditPid;
+use crate::edit_pid::{EditPid, new_edit_pid};
 use crate::pmt_conf::EditPmtConf;
 use crate::pmt_edit::edit_pmt;
 use plug_psi::{Current, EditsTable};
@@ -34,29 +37,22 @@ impl EditsTable for PmtEdit {
 /// The plugin `pmt`, which edits the PMTs on a PID.
 pub type EditPmt = EditPid<Current<PmtEdit>>;
 
-impl EditPid<Current<PmtEdit>> {
-    ghost use Rattle.std.specs.Prelude.{◌≡◌, [], None, IfOk};
-    ghost use Rattle.plug_edit.specs.Changes.{change_pmt};
-    ghost use Rattle.plug_edit.specs.EditRule.{edit_rule};
-
-    /// A new plugin, which has processed no cell. It keeps a copy of the settings; its steps allocate memory.
-    pub fn new(
-        alloc: Global,
-        conf: &EditPmtConf,
-        _buffer: usize,
-    ) -> Result<EditPid<Current<PmtEdit>>, AllocError>
-        requires { IsLawfulPmt conf.now }
-        ensures rule { IfOk result (λ plugin. ⟦<EditPid<Current<PmtEdit>> as Plugin>⟧.rule plugin
-            ≡ edit_rule conf.now.pmt_pid (change_pmt conf.now)) }
-        ensures fresh { IfOk result (λ plugin. ⟦<EditPid<Current<PmtEdit>> as Plugin>⟧.stands_for plugin [] 0) }
-        ensures steady { IfOk result (λ plugin. ⟦<EditPid<Current<PmtEdit>> as Plugin>⟧.steady plugin ≡ None) }
-    {
-        let edit = Current {
-            edit: PmtEdit {
-                conf: conf.copy(alloc)?,
-            },
-        };
-        let plugin = EditPid::over(alloc, conf.pmt_pid as u16, edit)?;
-        Ok(plugin)
-    }
+/// A new `pmt`, which has processed no packet. It keeps a copy of the settings; its steps allocate memory.
+pub fn new_edit_pmt(
+    alloc: Global,
+    conf: &EditPmtConf,
+    _buffer: usize,
+) -> Result<EditPmt, AllocError>
+    requires { IsLawfulPmt conf.now }
+    ensures rule { IfOk result (λ plugin. ⟦<EditPmt as Plugin>⟧.rule plugin ≡ edit_rule conf.now.pmt_pid (change_pmt conf.now)) }
+    ensures fresh { IfOk result (λ plugin. ⟦<EditPmt as Plugin>⟧.stands_for plugin [] 0) }
+    ensures steady { IfOk result (λ plugin. ⟦<EditPmt as Plugin>⟧.steady plugin ≡ None) }
+{
+    let edit = Current {
+        edit: PmtEdit {
+            conf: conf.copy(alloc)?,
+        },
+    };
+    let plugin = new_edit_pid(alloc, conf.pmt_pid as u16, edit)?;
+    Ok(plugin)
 }

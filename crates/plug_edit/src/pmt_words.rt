@@ -2,43 +2,99 @@
 
 ghost use Rattle.std.specs.Prelude.{◌≡◌, IfOk, MatchResult, codes, false, true};
 ghost use Rattle.std.specs.List.{All};
-ghost use Rattle.clap.specs.Simple.{app_of};
 ghost use Rattle.option_words.specs.Forms.{pairs};
-ghost use Rattle.option_words.specs.Options.{command_of, is_formed};
+ghost use Rattle.option_words.specs.Options.{is_formed};
 ghost use Rattle.option_words.specs.Refusal.{IsRefusedBy, ReadsParsed};
 ghost use Rattle.option_words.specs.declared.words_rule.WordsRule.TheVariants.{Value};
 ghost use Rattle.plug_conf.specs.declared.limits.TheConstants.{LAST_PID};
 ghost use Rattle.plug_edit.specs.EditWords.{pairs_found, slash};
 ghost use Rattle.plug_edit.specs.PmtSettings.{IsAddedComponent, IsLawfulPmt, IsMove};
-ghost use Rattle.plug_edit.specs.PmtWords.{pmt, pmt_rows};
+ghost use Rattle.plug_edit.specs.PmtWords.{pmt};
 ghost use Rattle.plug_edit.specs.declared.limits.TheConstants.{LAST_TYPE};
 
 use crate::edit_words::number_up_to;
 use crate::limits::{LAST_TYPE, LAST_VERSION};
 use crate::pmt_conf::EditPmtConf;
 use crate::versions::versions_agree;
-use clap::Command;
-use option_words::{OptionWord, ParsedOptions, Refusal, WordsRule, command_with};
+use option_words::{
+    Beside, Need, OptionRow, OptionText, OptionWord, ParsedOptions, Refusal, Sign, Takes, WordsRule,
+};
 use plug_conf::{LAST_PID, PairList};
-use std::alloc::{AllocError, Global};
+use plugin_entry::{PluginHelp, PluginSettings};
+use std::alloc::Global;
 
 // The options of `pmt`.
-static PMT: [OptionWord; 7] = [
-    OptionWord::Value("pmt-pid"),
-    OptionWord::Value("add-pid"),
-    OptionWord::Value("remove-pid"),
-    OptionWord::Value("move-pid"),
-    OptionWord::Value("pcr-pid"),
-    OptionWord::Value("new-version"),
-    OptionWord::Flag("increment-version"),
+static PMT: [OptionRow; 7] = [
+    OptionRow {
+        word: OptionWord::Value("pmt-pid", Takes::Number(0, LAST_PID)),
+        text: OptionText {
+            value: "PID",
+            meaning: "0 to 8191: the PID of the PMTs, whatever the PAT says of it",
+            need: Need::Required,
+            beside: Beside::Any,
+        },
+    },
+    OptionRow {
+        word: OptionWord::Value(
+            "add-pid",
+            Takes::Pairs(Sign::Slash, (0, LAST_PID), (0, LAST_TYPE)),
+        ),
+        text: OptionText {
+            value: "PID/TYPE,..",
+            meaning: "PID 0 to 8191, TYPE 0 to 255: set the stream_type of the first component of that PID, or put a new one last",
+            need: Need::Free,
+            beside: Beside::Any,
+        },
+    },
+    OptionRow {
+        word: OptionWord::Value("remove-pid", Takes::Ranges(LAST_PID)),
+        text: OptionText {
+            value: "LIST",
+            meaning: "0 to 8191: leave out the components of these PIDs",
+            need: Need::Free,
+            beside: Beside::Any,
+        },
+    },
+    OptionRow {
+        word: OptionWord::Value(
+            "move-pid",
+            Takes::Pairs(Sign::Slash, (0, LAST_PID), (0, LAST_PID)),
+        ),
+        text: OptionText {
+            value: "OLD/NEW,..",
+            meaning: "OLD 0 to 8191, NEW 0 to 8191: give the components of PID OLD the PID NEW, and PCR_PID too where it is OLD",
+            need: Need::Free,
+            beside: Beside::Any,
+        },
+    },
+    OptionRow {
+        word: OptionWord::Value("pcr-pid", Takes::Number(0, LAST_PID)),
+        text: OptionText {
+            value: "PID",
+            meaning: "0 to 8191: set PCR_PID",
+            need: Need::Free,
+            beside: Beside::Any,
+        },
+    },
+    OptionRow {
+        word: OptionWord::Value("new-version", Takes::Number(0, LAST_VERSION)),
+        text: OptionText {
+            value: "N",
+            meaning: "0 to 31: set the version",
+            need: Need::Free,
+            beside: Beside::Choice(1),
+        },
+    },
+    OptionRow {
+        word: OptionWord::Flag("increment-version"),
+        text: OptionText {
+            value: "",
+            meaning: "count the version on, from 31 to 0",
+            need: Need::Free,
+            beside: Beside::Choice(1),
+        },
+    },
 ];
-
-/// The command of `pmt`, which has its options.
-pub fn pmt_command<'a>(alloc: Global) -> Result<Command<'a>, AllocError>
-    ensures { IfOk result (λ c. app_of c ≡ command_of pmt_rows) }
-{
-    command_with(alloc, &PMT)
-}
 
 // The components that are added.
 fn added_components(alloc: Global, found: &ParsedOptions) -> Result<PairList, Refusal>
@@ -62,8 +118,8 @@ fn moved_pids(alloc: Global, found: &ParsedOptions) -> Result<PairList, Refusal>
     found.pair_list(alloc, "move-pid", '/', (0, LAST_PID), (0, LAST_PID))
 }
 
-/// Reads the settings of `pmt` from what its command found in the words.
-pub fn pmt_settings(alloc: Global, found: &ParsedOptions) -> Result<EditPmtConf, Refusal>
+// Reads the settings of `pmt` from what its command found in the words.
+fn pmt_settings(alloc: Global, found: &ParsedOptions) -> Result<EditPmtConf, Refusal>
     ensures reads { ReadsParsed pmt found.now result }
     ensures lawful { IfOk result IsLawfulPmt }
 {
@@ -89,4 +145,40 @@ pub fn pmt_settings(alloc: Global, found: &ParsedOptions) -> Result<EditPmtConf,
         new_version,
         increment_version,
     })
+}
+
+impl PluginSettings for EditPmtConf {
+    ghost use Rattle.std.specs.Prelude.{refl};
+    ghost use Rattle.plug_edit.specs.PmtEntry.{pmt_entry};
+
+    ghost entry = { pmt_entry };
+
+    fn name() -> &'static str {
+        "pmt"
+    }
+
+    fn options() -> &'static [OptionRow<'static>] {
+        &PMT
+    }
+
+    fn help() -> PluginHelp {
+        PluginHelp {
+            usage: "-P pmt --pmt-pid PID [--add-pid PID/TYPE,..] [--remove-pid LIST] [--move-pid OLD/NEW,..] [--pcr-pid PID] [--new-version N | --increment-version]",
+            rule: "Each packet on the PID becomes the next packet of the edited PMTs, or a null packet until a table is known; the packets of the components stay as they are. What is left out comes first, then the other options in this order, and then the version. A table that changes without a new version is written on as it was first.",
+        }
+    }
+
+    fn read(alloc: Global, found: &ParsedOptions) -> Result<EditPmtConf, Refusal> {
+        pmt_settings(alloc, found)
+    }
+
+    fn table_file(&self) -> Option<&str> {
+        None
+    }
+
+    fn uses_joint_termination(&self) -> bool {
+        false
+    }
+
+    ghost simple = { refl };
 }

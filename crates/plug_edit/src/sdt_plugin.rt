@@ -1,8 +1,11 @@
 //! The plugin `sdt`.
 
+ghost use Rattle.std.specs.Prelude.{◌≡◌, [], None, IfOk};
+ghost use Rattle.plug_edit.specs.Changes.{change_sdt};
+ghost use Rattle.plug_edit.specs.EditRule.{edit_rule};
 ghost use Rattle.plug_edit.specs.SdtSettings.{IsLawfulSdt};
 
-use crate::edit_pid::EditPid;
+use crate::edit_pid::{EditPid, new_edit_pid};
 use crate::sdt_conf::EditSdtConf;
 use crate::sdt_edit::edit_sdt;
 use plug_psi::{Current, EditsTable};
@@ -37,28 +40,22 @@ impl EditsTable for SdtEdit {
 /// The plugin `sdt`, which edits the SDT of the actual transport stream on PID 17.
 pub type EditSdt = EditPid<Current<SdtEdit>>;
 
-impl EditPid<Current<SdtEdit>> {
-    ghost use Rattle.std.specs.Prelude.{◌≡◌, [], None, IfOk};
-    ghost use Rattle.plug_edit.specs.Changes.{change_sdt};
-    ghost use Rattle.plug_edit.specs.EditRule.{edit_rule};
-
-    /// A new plugin, which has processed no cell. It keeps a copy of the settings; its steps allocate memory.
-    pub fn new(
-        alloc: Global,
-        conf: &EditSdtConf,
-        _buffer: usize,
-    ) -> Result<EditPid<Current<SdtEdit>>, AllocError>
-        requires { IsLawfulSdt conf.now }
-        ensures rule { IfOk result (λ plugin. ⟦<EditPid<Current<SdtEdit>> as Plugin>⟧.rule plugin ≡ edit_rule 17 (change_sdt conf.now)) }
-        ensures fresh { IfOk result (λ plugin. ⟦<EditPid<Current<SdtEdit>> as Plugin>⟧.stands_for plugin [] 0) }
-        ensures steady { IfOk result (λ plugin. ⟦<EditPid<Current<SdtEdit>> as Plugin>⟧.steady plugin ≡ None) }
-    {
-        let edit = Current {
-            edit: SdtEdit {
-                conf: conf.copy(alloc)?,
-            },
-        };
-        let plugin = EditPid::over(alloc, 17, edit)?;
-        Ok(plugin)
-    }
+/// A new `sdt`, which has processed no packet. It keeps a copy of the settings; its steps allocate memory.
+pub fn new_edit_sdt(
+    alloc: Global,
+    conf: &EditSdtConf,
+    _buffer: usize,
+) -> Result<EditSdt, AllocError>
+    requires { IsLawfulSdt conf.now }
+    ensures rule { IfOk result (λ plugin. ⟦<EditSdt as Plugin>⟧.rule plugin ≡ edit_rule 17 (change_sdt conf.now)) }
+    ensures fresh { IfOk result (λ plugin. ⟦<EditSdt as Plugin>⟧.stands_for plugin [] 0) }
+    ensures steady { IfOk result (λ plugin. ⟦<EditSdt as Plugin>⟧.steady plugin ≡ None) }
+{
+    let edit = Current {
+        edit: SdtEdit {
+            conf: conf.copy(alloc)?,
+        },
+    };
+    let plugin = new_edit_pid(alloc, 17, edit)?;
+    Ok(plugin)
 }

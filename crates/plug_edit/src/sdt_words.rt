@@ -1,41 +1,106 @@
 //! The options of `sdt`, and its settings from their values.
 
 ghost use Rattle.std.specs.Prelude.{◌≡◌, IfOk};
-ghost use Rattle.clap.specs.Simple.{app_of};
-ghost use Rattle.option_words.specs.Options.{command_of};
 ghost use Rattle.option_words.specs.Refusal.{ReadsParsed};
 ghost use Rattle.plug_edit.specs.SdtSettings.{IsLawfulSdt};
-ghost use Rattle.plug_edit.specs.SdtWords.{sdt, sdt_rows};
+ghost use Rattle.plug_edit.specs.SdtWords.{sdt};
 
 use crate::edit_words::number_up_to;
 use crate::limits::{LAST_ID, LAST_MODE, LAST_STATUS, LAST_TYPE, LAST_VERSION};
 use crate::sdt_conf::EditSdtConf;
-use clap::Command;
-use option_words::{OptionWord, ParsedOptions, Refusal, WordsRule, command_with};
-use std::alloc::{AllocError, Global};
+use option_words::{
+    Beside, Need, OptionRow, OptionText, OptionWord, ParsedOptions, Refusal, Takes, WordsRule,
+};
+use plugin_entry::{PluginHelp, PluginSettings};
+use std::alloc::Global;
 
 // The options of `sdt`. The first five are on services and on a service descriptor.
-static SDT: [OptionWord; 9] = [
-    OptionWord::Value("remove-service"),
-    OptionWord::Value("service"),
-    OptionWord::Value("name"),
-    OptionWord::Value("provider"),
-    OptionWord::Value("type"),
-    OptionWord::Value("running-status"),
-    OptionWord::Value("free-ca-mode"),
-    OptionWord::Value("new-version"),
-    OptionWord::Flag("increment-version"),
+static SDT: [OptionRow; 9] = [
+    OptionRow {
+        word: OptionWord::Value("remove-service", Takes::Ranges(LAST_ID)),
+        text: OptionText {
+            value: "LIST",
+            meaning: "0 to 65535: leave out these services",
+            need: Need::Free,
+            beside: Beside::Any,
+        },
+    },
+    OptionRow {
+        word: OptionWord::Value("service", Takes::Number(0, LAST_ID)),
+        text: OptionText {
+            value: "N",
+            meaning: "0 to 65535: the service that the next five options change; put in last where it is not there",
+            need: Need::Free,
+            beside: Beside::Any,
+        },
+    },
+    OptionRow {
+        word: OptionWord::Value("name", Takes::Text),
+        text: OptionText {
+            value: "TEXT",
+            meaning: "with --service: its name",
+            need: Need::Free,
+            beside: Beside::With("service"),
+        },
+    },
+    OptionRow {
+        word: OptionWord::Value("provider", Takes::Text),
+        text: OptionText {
+            value: "TEXT",
+            meaning: "with --service: its provider's name",
+            need: Need::Free,
+            beside: Beside::With("service"),
+        },
+    },
+    OptionRow {
+        word: OptionWord::Value("type", Takes::Number(0, LAST_TYPE)),
+        text: OptionText {
+            value: "N",
+            meaning: "0 to 255: with --service: its service_type",
+            need: Need::Free,
+            beside: Beside::With("service"),
+        },
+    },
+    OptionRow {
+        word: OptionWord::Value("running-status", Takes::Number(0, LAST_STATUS)),
+        text: OptionText {
+            value: "N",
+            meaning: "0 to 7: with --service: its running_status",
+            need: Need::Free,
+            beside: Beside::With("service"),
+        },
+    },
+    OptionRow {
+        word: OptionWord::Value("free-ca-mode", Takes::Number(0, LAST_MODE)),
+        text: OptionText {
+            value: "N",
+            meaning: "0 to 1: with --service: its free_CA_mode",
+            need: Need::Free,
+            beside: Beside::With("service"),
+        },
+    },
+    OptionRow {
+        word: OptionWord::Value("new-version", Takes::Number(0, LAST_VERSION)),
+        text: OptionText {
+            value: "N",
+            meaning: "0 to 31: set the version",
+            need: Need::Free,
+            beside: Beside::Choice(1),
+        },
+    },
+    OptionRow {
+        word: OptionWord::Flag("increment-version"),
+        text: OptionText {
+            value: "",
+            meaning: "count the version on, from 31 to 0",
+            need: Need::Free,
+            beside: Beside::Choice(1),
+        },
+    },
 ];
 
-/// The command of `sdt`, which has its options.
-pub fn sdt_command<'a>(alloc: Global) -> Result<Command<'a>, AllocError>
-    ensures { IfOk result (λ c. app_of c ≡ command_of sdt_rows) }
-{
-    command_with(alloc, &SDT)
-}
-
-/// Reads the settings of `sdt` from what its command found in the words.
-pub fn sdt_settings(alloc: Global, found: &ParsedOptions) -> Result<EditSdtConf, Refusal>
+// Reads the settings of `sdt` from what its command found in the words.
+fn sdt_settings(alloc: Global, found: &ParsedOptions) -> Result<EditSdtConf, Refusal>
     ensures reads { ReadsParsed sdt found.now result }
     ensures lawful { IfOk result IsLawfulSdt }
 {
@@ -62,4 +127,40 @@ pub fn sdt_settings(alloc: Global, found: &ParsedOptions) -> Result<EditSdtConf,
         return Err(Refusal::Broken(WordsRule::Conflict));
     }
     Ok(conf)
+}
+
+impl PluginSettings for EditSdtConf {
+    ghost use Rattle.std.specs.Prelude.{refl};
+    ghost use Rattle.plug_edit.specs.SdtEntry.{sdt_entry};
+
+    ghost entry = { sdt_entry };
+
+    fn name() -> &'static str {
+        "sdt"
+    }
+
+    fn options() -> &'static [OptionRow<'static>] {
+        &SDT
+    }
+
+    fn help() -> PluginHelp {
+        PluginHelp {
+            usage: "-P sdt [--remove-service LIST] [--service N] [--name TEXT] [--provider TEXT] [--type N] [--running-status N] [--free-ca-mode N] [--new-version N | --increment-version]",
+            rule: "Each packet on PID 17 becomes the next packet of the edited SDT, or a null packet until a table is known. Name, provider and type are those of the service's descriptor, and no option on a service goes without --service. Each further service takes an sdt of its own in the chain. A stream without an SDT gets none. What does not fit its descriptor or its sections leaves the table as it was. A table that changes without a new version is written on as it was first.",
+        }
+    }
+
+    fn read(alloc: Global, found: &ParsedOptions) -> Result<EditSdtConf, Refusal> {
+        sdt_settings(alloc, found)
+    }
+
+    fn table_file(&self) -> Option<&str> {
+        None
+    }
+
+    fn uses_joint_termination(&self) -> bool {
+        false
+    }
+
+    ghost simple = { refl };
 }

@@ -3,3 +3,4 @@ pub mod UntilRule
 pub mod UntilState
 pub mod UntilSettings
 pub mod UntilWords
+pub mod UntilEntry

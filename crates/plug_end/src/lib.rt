@@ -8,4 +8,3 @@ mod until_words;
 
 pub use until::Until;
 pub use until_conf::UntilConf;
-pub use until_words::{until_command, until_settings};

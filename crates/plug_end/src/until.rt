@@ -4,9 +4,9 @@ ghost use Rattle.std.specs.Prelude.{◌≡◌, IfOk, [], Some};
 ghost use Rattle.plug_end.specs.UntilRule.{until_rule, reaches};
 
 use crate::until_conf::UntilConf;
-use plugin_trait::{Line, Outcome, Plugin, silent_report};
+use plugin_trait::{Line, Outcome, Plugin};
 use std::alloc::{AllocError, Global};
-use ts_packet::{Cell, PACKET_SIZE};
+use ts_packet::{Labels, PACKET_SIZE, Packet};
 
 /// Passes packets until a number of packets, of their bytes or of payload unit starts is reached. The packet
 /// with which it is reached is the last one, or is left out. With joint termination every packet
@@ -23,7 +23,6 @@ pub struct Until {
     /// How many unit starts were met.
     starts: u64,
     buffer: usize,
-    alloc: Global,
 }
 
 impl Until {
@@ -32,7 +31,7 @@ impl Until {
     ghost use Rattle.plug_end.specs.UntilRule.{until_rule, reaches};
 
     /// A plugin that met no cell yet. It allocates nothing, here and in its steps.
-    pub fn new(alloc: Global, conf: &UntilConf, buffer: usize) -> Result<Until, AllocError>
+    pub fn new(_alloc: Global, conf: &UntilConf, buffer: usize) -> Result<Until, AllocError>
         requires { IsLawfulUntil conf.now }
         ensures rule { IfOk result (λ plugin. ⟦<Until as Plugin>⟧.rule plugin ≡ until_rule conf.now) }
         ensures fresh { IfOk result (λ plugin. ⟦<Until as Plugin>⟧.stands_for plugin [] 0) }
@@ -47,7 +46,6 @@ impl Until {
             met: 0,
             starts: 0,
             buffer,
-            alloc,
         })
     }
 
@@ -86,12 +84,9 @@ impl Plugin for Until {
     ghost silent = { λ _. true };
 
     #[inline]
-    fn step(&mut self, _at: u64, cell: &mut Cell) -> Outcome {
-        let Some(live) = cell.live() else {
-            return Outcome::Pass;
-        };
+    fn step(&mut self, _at: u64, packet: &mut Packet, _labels: &mut Labels) -> Outcome {
         let met = self.met + 1;
-        let starts = self.starts + u64::from(live.packet.unit_start());
+        let starts = self.starts + u64::from(packet.unit_start());
         let ends = !self.joint_termination && self.is_reached(met, starts);
         if ends && self.exclude_last {
             return Outcome::Stop;
@@ -104,7 +99,9 @@ impl Plugin for Until {
         Outcome::Pass
     }
 
-    fn note(&mut self, _written: u64) -> Result<(), AllocError> {
+    fn pass_over(&mut self, _at: u64) {}
+
+    fn note(&mut self, _written: u64, _lines: &mut Vec<Line>) -> Result<(), AllocError> {
         Ok(())
     }
 
@@ -112,8 +109,12 @@ impl Plugin for Until {
         self.joint_termination && self.is_reached(self.met, self.starts)
     }
 
-    fn finish(&mut self, _cut: u64) -> Result<Vec<Line>, AllocError> {
-        Ok(silent_report(self.alloc))
+    fn summary(&self, _at: u64, _lines: &mut Vec<Line>) -> Result<(), AllocError> {
+        Ok(())
+    }
+
+    fn has_fault(&self, _cut: u64) -> bool {
+        false
     }
 
     ghost starts_open = { λ plugin history mark stands. stands.open_at_first };

@@ -1,6 +1,5 @@
 -- Lemmas on lists of items in JSON, and on the parts of objects.
-use Rattle.std.proofs.Common.{◌≡◌, ℕ, List, [], ◌∷◌, ◌++◌, map, ap, ◌∙◌, refl, Option, codes}
-use Rattle.std.specs.Fmt.{decimal}
+use Rattle.std.proofs.Common.{◌≡◌, ℕ, List, [], ◌∷◌, ◌++◌, map, ap, ◌∙◌, refl, Option}
 use Rattle.std.specs.List.{flat_map}
 use Rattle.info_texts.specs.InfoJson.{component_tail, service_tail, whole_json}
 use Rattle.info_texts.specs.declared.pid_numbers.PidNumbers.{PidNumbers}
@@ -31,14 +30,3 @@ whole_is stream stream_new sdt sdt_new cas cas_new services services_new pids pi
     ∙ (ap (λ (x : List ℕ). whole_json stream_new x cas services pids) b
     ∙ (ap (λ (x : List ℕ). whole_json stream_new sdt_new x services pids) c
     ∙ (ap (λ (x : List ℕ). whole_json stream_new sdt_new cas_new x pids) d ∙ ap (whole_json stream_new sdt_new cas_new services_new) e)))
-
--- the object of a PID, each part of which is known
-abbrev pub pid_parts : ℕ → List ℕ → List ℕ → List ℕ → List ℕ
-pid_parts pid purpose portion troubles = codes "{\"pid\":" ++ (decimal pid ++ (codes ",\"use\":\"" ++ (purpose ++ (codes "\"," ++ (portion
-    ++ (troubles ++ codes "}"))))))
-
-pub pid_is : (pid : ℕ) (purpose purpose_new portion portion_new troubles troubles_new : List ℕ) → purpose ≡ purpose_new → portion ≡ portion_new → troubles ≡ troubles_new
-    → pid_parts pid purpose portion troubles ≡ pid_parts pid purpose_new portion_new troubles_new
-pid_is pid purpose purpose_new portion portion_new troubles troubles_new a b c =
-    ap (λ (x : List ℕ). pid_parts pid x portion troubles) a
-    ∙ (ap (λ (x : List ℕ). pid_parts pid purpose_new x troubles) b ∙ ap (pid_parts pid purpose_new portion_new) c)

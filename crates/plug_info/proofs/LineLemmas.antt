@@ -1,7 +1,6 @@
 -- Lemmas on lines after lines.
-use Rattle.std.proofs.Common.{◌≡◌, ℕ, ◌+◌, ◌<◌, List, [], ◌∷◌, ◌++◌, length, take, map, ap, ap₂, sym, ◌∙◌, refl, Bool, true, false, append_assoc, append-nil, Option, None, Some, get_or, ◌==◌, if◌then◌else◌, codes}
+use Rattle.std.proofs.Common.{◌≡◌, ℕ, ◌+◌, ◌<◌, List, [], ◌∷◌, ◌++◌, length, take, map, ap, ap₂, sym, ◌∙◌, refl, Bool, true, false, append_assoc, append-nil, Option, None, Some, get_or, ◌==◌, if◌then◌else◌}
 use Rattle.std.specs.Prelude.{cond}
-use Rattle.std.specs.Fmt.{decimal}
 use Rattle.std.proofs.lemmas.Bool.{ne_eqb}
 use Rattle.std.specs.List.{cons_option, count_by, filter_map, flat_map, fold}
 use Rattle.std.proofs.lemmas.Grind.{flat_map-append}
@@ -119,16 +118,6 @@ tail_is scene scene_new numbers numbers_new users users_new a b c =
 pub if_other : (pat sdt : ℕ) (made text : List ℕ) → (pat ≡ sdt → ⊥) → made ≡ text → made ∷ [] ≡ (if pat == sdt then [] else text ∷ [])
 if_other pat sdt made text other is =
     ap (λ (t : List ℕ). t ∷ []) is ∙ sym (ap (λ (b : Bool). if b then [] else text ∷ []) (ne_eqb pat sdt other))
-
--- the line of a PID, each part of which is known
-abbrev pub pid_parts : ℕ → List ℕ → List ℕ → List ℕ → List ℕ
-pid_parts pid purpose portion troubles = codes "pid " ++ (decimal pid ++ (codes " (" ++ (purpose ++ (codes ")" ++ (portion ++ troubles)))))
-
-pub pid_is : (pid : ℕ) (purpose purpose_new portion portion_new troubles troubles_new : List ℕ) → purpose ≡ purpose_new → portion ≡ portion_new → troubles ≡ troubles_new
-    → pid_parts pid purpose portion troubles ≡ pid_parts pid purpose_new portion_new troubles_new
-pid_is pid purpose purpose_new portion portion_new troubles troubles_new a b c =
-    ap (λ (x : List ℕ). pid_parts pid x portion troubles) a
-    ∙ (ap (λ (x : List ℕ). pid_parts pid purpose_new x troubles) b ∙ ap (pid_parts pid purpose_new portion_new) c)
 
 -- what there is where a condition holds
 pub shown_is : {X : Type 0} (b : Bool) (numbers numbers_new : PidNumbers) (xs : List X) → Some numbers ≡ (if b then Some numbers_new else None)

@@ -1,14 +1,9 @@
 -- Lemmas on the cells that were processed, cell by cell and mark by mark.
-use Rattle.std.proofs.Common.{◌≡◌, ℕ, zero, suc, ◌+◌, ◌<◌, ◌≤◌, List, [], ◌∷◌, ◌++◌, length, take, drop, ap, sym, subst, ◌∙◌, refl, arith, drop-drop, get_or}
+use Rattle.std.proofs.Common.{◌≡◌, ℕ, zero, suc, ◌+◌, ◌<◌, List, [], ◌∷◌, ◌++◌, length, take, drop, ap, sym, subst, ◌∙◌, refl, arith, drop-drop, get_or}
 use Rattle.std.proofs.lemmas.List.{length-take-le, take_more}
 use Rattle.ts_packet.specs.declared.cell.Cell.{Cell}
-use Rattle.ts_packet.specs.Cells.{Live, Dropped}
-use Rattle.plugin_trait.specs.declared.line.Line.{Line}
-use Rattle.plugin_trait.specs.PlacedLines.{placed_after, placed_at, placed_of}
-use Rattle.plug_info.specs.InfoRule.{info_rule, report_in}
 use Rattle.plug_info.specs.MetState.{HasMet}
 use Rattle.plug_info.specs.Tracked.{Tracks, TracksSome}
-use Rattle.plug_info.specs.declared.info_conf.InfoConf.{InfoConf}
 use Rattle.plug_info.specs.declared.met_cells.MetCells.{MetCells}
 
 -- no cell yet
@@ -57,18 +52,3 @@ module _ (met : MetCells) (history : List Cell) (mark : ℕ) (w : HasMet met his
     where
       behind : rest ≡ drop (mark + 1) history
       behind = ap (drop 1) (sym front ∙ w.waits) ∙ (drop-drop 1 mark history ∙ ap (λ (n : ℕ). drop n history) (let same : mark + 1 ≡ mark + 1 = refl in same))
-
--- a rule without lines per packet has none
-placed_none : (conf : InfoConf) (history cells : List Cell) → placed_after (info_rule conf) history cells ≡ []
-placed_none conf history [] = refl
-placed_none conf history (Live packet labels ∷ cells) = placed_none conf (history ++ Live packet labels ∷ []) cells
-placed_none conf history (Dropped ∷ cells) = placed_none conf (history ++ Dropped ∷ []) cells
-
--- the report over the cells before a position
-pub report_is : (conf : InfoConf) (history : List Cell) (cut : ℕ) (lines : List Line) → cut ≤ length history → lines ≡ placed_at cut (report_in conf.json (take cut history))
-    → lines ≡ placed_of (info_rule conf) (take cut history)
-report_is conf history cut lines within is =
-    let report = report_in conf.json (take cut history) in
-    is
-    ∙ (ap (λ (n : ℕ). placed_at n report) (sym (length-take-le cut history within))
-    ∙ ap (λ (ls : List Line). ls ++ placed_at (length (take cut history)) report) (sym (placed_none conf [] (take cut history))))

@@ -1,5 +1,5 @@
 -- Worked rows of the bit rate, computed on the definitions. Packets of twelve bytes are enough here.
-use Rattle.std.proofs.Common.{◌≡◌, ℕ, ◌-◌, ◌/◌, ◌%◌, ◌+◌, List, [], ◌∷◌, codes, length, true, false, refl, Option, None, Some}
+use Rattle.std.proofs.Common.{◌≡◌, ℕ, ◌-◌, ◌/◌, ◌%◌, List, [], ◌∷◌, codes, length, true, false, refl, Option, None, Some}
 use Rattle.std.specs.List.{fold}
 use Rattle.std.specs.Fmt.{digits}
 use Rattle.bit_rows.specs.BitRow.{bit_of, field}

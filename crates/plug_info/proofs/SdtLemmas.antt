@@ -1,20 +1,17 @@
 -- Lemmas on the SDTs that are kept, packet by packet.
 use Rattle.std.proofs.Common.{◌≡◌, ℕ, ◌==◌, ◌&&◌, false, List, [], ◌∷◌, ◌++◌, Option, None, Some, refl, sym, ◌∙◌, ap, ap₂}
-use Rattle.std.specs.Prelude.{is_some, not, option_map}
-use Rattle.std.specs.Option.{option_copied, option_or}
+use Rattle.std.specs.Prelude.{is_some, not}
+use Rattle.std.specs.Option.{option_or}
 use Rattle.ts_packet.specs.Header.{error_indicator_of, pid_of, scrambling_of}
 use Rattle.ts_packet.specs.Payload.{payload_start_of}
 use Rattle.ts_demux.specs.CountedPackets.{counts}
 use Rattle.ts_demux.specs.PidTables as reading
 use Rattle.ts_demux.specs.TablesOn.{Completes}
 use Rattle.ts_demux.specs.declared.pid_tables.PidTables.{PidTables}
-use Rattle.ts_table_rows.specs.TableValues.{TableHolding}
-use Rattle.ts_si.specs.SiTables.{sdt_held}
 use Rattle.plug_psi.specs.LastFound.{found_behind}
 use Rattle.plug_psi.proofs.FoundLemmas.{found-more, found-none}
 use Rattle.plug_info.specs.SdtInForce.{current_sdt, current_sdt_of, last_sdt, sdt_for, sdt_of, sdt_with, stream_id_in}
 use Rattle.plug_info.specs.SdtStands.{HasFedSdt, kept_at, kept_with, last_kept}
-use Rattle.plug_info.specs.declared.kept_sdts.KeptSdts.{KeptSdts}
 use Rattle.plug_info.specs.declared.sdt_in_force.SdtInForce.{SdtInForce}
 use Rattle.plug_psi.specs.InForce.{pat_of}
 

@@ -1,14 +1,12 @@
 -- Lemmas on what PIDs are used for, service by service.
-use Rattle.std.proofs.Common.{◌≡◌, ℕ, ◌+◌, ◌<◌, ◌≤◌, Bool, true, false, List, [], ◌∷◌, ◌++◌, length, drop, map, get_or, sym, ap, ◌∙◌, refl, append-nil, append_assoc, arith, codes, cond, if◌then◌else◌}
-use Rattle.std.specs.Prelude.{find, Option, None, Some}
+use Rattle.std.proofs.Common.{◌≡◌, ℕ, ◌+◌, ◌<◌, ◌≤◌, Bool, false, List, [], ◌∷◌, ◌++◌, length, drop, map, get_or, sym, ap, ◌∙◌, refl, append-nil, append_assoc, arith, cond}
+use Rattle.std.specs.Prelude.{find, None, Some}
 use Rattle.std.proofs.lemmas.Bool.{ne_eqb}
 use Rattle.std.specs.List.{cons_option, filter_map, flat_map}
 use Rattle.std.proofs.lemmas.List.{drop_more, drop_all}
 use Rattle.ts_psi.specs.PatTables.{is_network, network_items, pat_held, service_item}
 use Rattle.ts_psi.specs.declared.pat.Pat.{Pat}
 use Rattle.ts_psi.specs.declared.pat.PatService.{PatService}
-use Rattle.ts_table_rows.specs.BodyReading.{is_zero}
-use Rattle.ts_table_rows.specs.TableValues.{ItemHolding}
 use Rattle.plug_psi.specs.InForce.{service_in}
 use Rattle.plug_info.specs.PidUses.{entry_pid, network_pid_in}
 

@@ -1,6 +1,6 @@
 -- The rule of `info`: what is in a stream, on one screen. This project's own rule, over the header fields of ISO/IEC
 -- 13818-1, 2.4.3.2, the tables of 2.4.4.3 and 2.4.4.8, and the SDT of ETSI EN 300 468, 5.2.3.
-use Rattle.std.specs.Prelude.{ℕ, ◌+◌, ◌==◌, ◌&&◌, Bool, false, not, List, [], ◌∷◌, ◌++◌, length, map, filter, fold, count_by, drop, Option, None, Some, option_map, unwrap_or, if◌then◌else◌}
+use Rattle.std.specs.Prelude.{ℕ, ◌+◌, ◌==◌, ◌&&◌, Bool, false, not, List, [], ◌∷◌, ◌++◌, length, map, filter, fold, count_by, drop, Option, unwrap_or, if◌then◌else◌}
 use Rattle.std.specs.List.{flat_map, list_any}
 use Rattle.ts_packet.specs.declared.cell.Cell.{Cell}
 use Rattle.ts_packet.specs.declared.numbers.TheConstants.{NULL_PID, PID_COUNT}
@@ -161,4 +161,5 @@ info_rule conf = record {
   lines_of = λ _ _ _. [];
   summary_of = λ history. report_in conf.json history;
   agrees = λ _. false;
+  has_fault = λ _. false;
 }

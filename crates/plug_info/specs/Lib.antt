@@ -20,3 +20,4 @@ pub mod SdtStatus
 pub mod TotalsOf
 pub mod Tracked
 pub mod UsesOf
+pub mod InfoEntry

@@ -8,7 +8,7 @@ use crate::report::push_report;
 use plug_psi::{Changes, FailureLatch};
 use plugin_trait::{Line, Outcome, Plugin};
 use std::alloc::{AllocError, Global};
-use ts_packet::Cell;
+use ts_packet::{Cell, Labels, Packet};
 
 /// Reports what is in the stream: its services by name, their components, and how much of the rate each takes.
 ///
@@ -18,7 +18,6 @@ pub struct Info {
     json: bool,
     met: MetCells,
     failed: FailureLatch,
-    alloc: Global,
 }
 
 impl Info {
@@ -43,21 +42,20 @@ impl Info {
             json: conf.json,
             met: MetCells::new(alloc, buffer)?,
             failed: FailureLatch::unset(),
-            alloc,
         })
     }
 
-    /// Adds the PIDs on which tables changed without a new version. After `finish` it knows all cells before the cut.
+    /// Adds the PIDs on which tables changed without a new version. After a mark it knows all cells below it.
     pub fn add_changes(&self, changes: &mut Changes) -> Result<(), AllocError> {
         self.met.tracker.add_changes(changes)
     }
 
     // Processes the next cell, unless memory ran out before.
     #[inline]
-    fn meet(&mut self, cell: &Cell) -> Result<(), AllocError>
+    fn meet(&mut self, cell: Cell) -> Result<(), AllocError>
         ensures met { OnOk result ((history : List GivenCell) (mark : ℕ) → StandsFor self.old history mark
             → length history < POSITION_LIMIT
-            → StandsFor self.new (history ++ cell.now ∷ []) mark) }
+            → StandsFor self.new (history ++ cell ∷ []) mark) }
         ensures same { self.new.json ≡ self.old.json }
         ensures spent { OnErr result (has_failed self.new ≡ true) }
         ensures stays_spent { has_failed self.old ≡ true → IsErr result }
@@ -73,10 +71,10 @@ impl Info {
 
 impl Plugin for Info {
     ghost use Rattle.std.specs.Prelude.{◌≡◌, ◌≢◌, ◌<◌, IsOk, IsSome, None, false, refl, true};
-    ghost use Rattle.ts_packet.specs.Cells.{Dropped};
+    ghost use Rattle.ts_packet.specs.Cells.{Dropped, Live};
     ghost use Rattle.chain_model.specs.declared.positions.TheConstants.{POSITION_LIMIT};
-    ghost use Rattle.plugin_trait.specs.Marks.{AllowsMark, Notes};
-    ghost use Rattle.plugin_trait.specs.Steps.{HasRoom, Meets, MeetsCells, Tells};
+    ghost use Rattle.plugin_trait.specs.Marks.{AllowsMark, GivesLines};
+    ghost use Rattle.plugin_trait.specs.Steps.{HasRoom, Meets, MeetsCells, Tells, left_of};
     ghost use Rattle.plug_info.specs.InfoRule.{info_rule};
     ghost use Rattle.plug_info.specs.InfoStands.{IsFull, MeetsHistory, conf_of, has_failed, room_of, steady_of};
 
@@ -87,15 +85,15 @@ impl Plugin for Info {
     ghost steady = { λ s. steady_of s };
 
     /// The clauses are those of `Plugin`, whose ghost members have no names here, and three more: a step that runs out
-    /// of memory leaves the plugin failed, and only a full buffer makes it fail.
+    /// of memory leaves the plugin failed, only a full buffer makes it fail, and the room for cells stays the same.
     // Inlined always: otherwise the loop of `steps` has a call for each cell.
     #[inline(always)]
-    fn step(&mut self, _at: u64, cell: &mut Cell) -> Outcome
+    fn step(&mut self, _at: u64, packet: &mut Packet, labels: &mut Labels) -> Outcome
         requires met { MeetsCells (MeetsHistory self.old) _at }
         requires in_range { _at < POSITION_LIMIT }
-        ensures tells { Tells (info_rule (conf_of self.old)) (MeetsHistory self.old) _at cell.old result cell.new }
-        ensures dropped { cell.old ≡ Dropped → result ≡ Outcome.Pass }
-        ensures meets { Meets (MeetsHistory self.old) (MeetsHistory self.new) _at cell.old result }
+        ensures tells { Tells (info_rule (conf_of self.old)) (MeetsHistory self.old) _at (Live packet.old labels.old) result
+            (left_of result packet.new labels.new) }
+        ensures meets { Meets (MeetsHistory self.old) (MeetsHistory self.new) _at (Live packet.old labels.old) result }
         ensures same_rule { info_rule (conf_of self.new) ≡ info_rule (conf_of self.old) }
         ensures same_steady { steady_of self.new ≡ steady_of self.old }
         ensures room { HasRoom (steady_of self.old) (MeetsHistory self.old) _at → result ≢ Outcome.NoMemory }
@@ -103,23 +101,33 @@ impl Plugin for Info {
         ensures full { has_failed self.old ≡ false → has_failed self.new ≡ true → IsFull self.old }
         ensures reserved { room_of self.new ≡ room_of self.old }
     {
-        match self.meet(cell) {
+        match self.meet(Cell::of(*packet, *labels)) {
             Ok(()) => Outcome::Pass,
-            Err(_) => {
-                if cell.is_live() {
-                    Outcome::NoMemory
-                } else {
-                    Outcome::Pass
-                }
-            }
+            Err(_) => Outcome::NoMemory,
         }
     }
 
+    /// The clauses are those of `Plugin`, and two more: only a full buffer makes the plugin fail, and the room for
+    /// cells stays the same.
+    #[inline(always)]
+    fn pass_over(&mut self, _at: u64)
+        requires met { MeetsCells (MeetsHistory self.old) _at }
+        requires in_range { _at < POSITION_LIMIT }
+        ensures meets { Meets (MeetsHistory self.old) (MeetsHistory self.new) _at Dropped Outcome.Pass }
+        ensures same_rule { info_rule (conf_of self.new) ≡ info_rule (conf_of self.old) }
+        ensures same_steady { steady_of self.new ≡ steady_of self.old }
+        ensures full { has_failed self.old ≡ false → has_failed self.new ≡ true → IsFull self.old }
+        ensures reserved { room_of self.new ≡ room_of self.old }
+    {
+        let _ = self.meet(Cell::dropped());
+    }
+
     /// The clauses are those of `Plugin`, and two more: it makes the plugin fail only where it runs out of memory
-    /// itself.
-    fn note(&mut self, written: u64) -> Result<(), AllocError>
+    /// itself, and the room for cells stays the same.
+    fn note(&mut self, written: u64, _lines: &mut Vec<Line>) -> Result<(), AllocError>
         requires { AllowsMark (MeetsHistory self.old) written }
-        ensures notes { Notes (MeetsHistory self.old) (MeetsHistory self.new) written result }
+        ensures gives { GivesLines (info_rule (conf_of self.old)) (MeetsHistory self.old) (MeetsHistory self.new) written
+            _lines.old.items _lines.new.items result }
         ensures same_rule { info_rule (conf_of self.new) ≡ info_rule (conf_of self.old) }
         ensures same_steady { steady_of self.new ≡ steady_of self.old }
         ensures room { IsSome (steady_of self.old) → IsOk result }
@@ -138,12 +146,14 @@ impl Plugin for Info {
         false
     }
 
-    fn finish(&mut self, cut: u64) -> Result<Vec<Line>, AllocError> {
+    fn summary(&self, at: u64, lines: &mut Vec<Line>) -> Result<(), AllocError> {
         self.failed.check()?;
-        self.met.take_below(cut)?;
-        let mut lines = Vec::new(self.alloc);
-        push_report(&mut lines, cut, &self.met.tracker, self.json)?;
-        Ok(lines)
+        push_report(lines, at, &self.met.tracker, self.json)?;
+        Ok(())
+    }
+
+    fn has_fault(&self, _cut: u64) -> bool {
+        false
     }
 
     ghost starts_open = { λ plugin history mark stands. refl };

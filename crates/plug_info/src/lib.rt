@@ -30,4 +30,3 @@ mod users;
 
 pub use info::Info;
 pub use info_conf::InfoConf;
-pub use info_words::{info_command, info_settings};

@@ -39,13 +39,13 @@ impl MetCells {
 
     /// Appends the next cell. If the buffer is full it returns `AllocError`.
     #[inline]
-    pub fn push(&mut self, cell: &Cell) -> Result<(), AllocError>
+    pub fn push(&mut self, cell: Cell) -> Result<(), AllocError>
         ensures met { OnOk result ((history : List GivenCell) (mark : ℕ) → HasMet self.old history mark → length history < POSITION_LIMIT
-            → HasMet self.new (history ++ cell.now ∷ []) mark) }
+            → HasMet self.new (history ++ cell ∷ []) mark) }
         ensures full { IsErr result → self.old.waiting.capacity ≤ length self.old.waiting.items }
         ensures reserved { self.new.waiting.capacity ≡ self.old.waiting.capacity }
     {
-        push_note(&mut self.waiting, copy_of(cell))
+        push_note(&mut self.waiting, cell)
     }
 
     /// Counts the cells below a later mark. After `AllocError` it is not to be used any more.
@@ -64,17 +64,6 @@ impl MetCells {
             self.mark += 1;
         }
         Ok(())
-    }
-}
-
-// The same cell once more. It takes no memory.
-#[inline]
-fn copy_of(cell: &Cell) -> Cell
-    ensures { result ≡ cell.now }
-{
-    match cell.live() {
-        Some(live) => Cell::of(live.packet, live.labels),
-        None => Cell::dropped(),
     }
 }
 

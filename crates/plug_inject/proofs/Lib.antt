@@ -1,3 +1,4 @@
 pub mod TurnLemmas
 pub mod PlaceLemmas
 mod Rows
+pub mod MetLemmas

@@ -31,12 +31,12 @@ abbrev pub cycle_packet : List (List ℕ) → ℕ → List ℕ
 cycle_packet contents k = with_counter (get_or contents (k % length contents) []) (k % 16)
 
 -- one more packet was processed, or a dropped cell
-older-live : (history : List Cell) (packet : List ℕ) (labels : ℕ) → reverse (live_packets (history ++ Live packet labels ∷ [])) ≡ packet ∷ reverse (live_packets history)
+pub older-live : (history : List Cell) (packet : List ℕ) (labels : ℕ) → reverse (live_packets (history ++ Live packet labels ∷ [])) ≡ packet ∷ reverse (live_packets history)
 older-live history packet labels =
     ap (λ (packets : List (List ℕ)). reverse packets) (flat_map-append packet_in history (Live packet labels ∷ []))
     ∙ reverse-append (live_packets history) (packet ∷ [])
 
-older-dropped : (history : List Cell) → reverse (live_packets (history ++ Dropped ∷ [])) ≡ reverse (live_packets history)
+pub older-dropped : (history : List Cell) → reverse (live_packets (history ++ Dropped ∷ [])) ≡ reverse (live_packets history)
 older-dropped history =
     ap (λ (packets : List (List ℕ)). reverse packets) (flat_map-append packet_in history (Dropped ∷ []) ∙ append-nil (live_packets history))
 

@@ -95,6 +95,6 @@ module _ {how : Injection} {put_in wait : ℕ} {older : List (List ℕ)} (counts
       }
 
 -- before the first cell
-pub at_first : (how : Injection) → Stands how 0 0 [] 0
+pub at_first : (how : Injection) → Stands how 0 0 []
 unfolding replaced_among wait_among
-at_first how = record { counts = record { number = refl; few = zero-le; turn = refl }; live = zero-le; marked = zero-le }
+at_first how = record { counts = record { number = refl; few = zero-le; turn = refl }; live = zero-le }

@@ -4,11 +4,13 @@
 use Rattle.std.specs.Prelude.{ℕ, ◌-◌, ◌%◌, ◌==◌, ◌&&◌, not, Bool, List, [], ◌∷◌, length, take, reverse, count_by, Option, unwrap_or, is_some, slice_get, if◌then◌else◌}
 use Rattle.std.specs.List.{list_any}
 use Rattle.std.specs.Option.{option_map}
+use Rattle.ts_packet.specs.declared.cell.Cell.{Cell}
 use Rattle.ts_packet.specs.Cells.{live_packets}
 use Rattle.ts_packet.specs.Header.{pid_of, with_counter}
 use Rattle.ts_packet.specs.declared.numbers.TheConstants.{NULL_PID}
 use Rattle.ts_packetize.specs.Packets.{packets_of}
 use Rattle.chain_model.specs.PluginRule.{PluginRule, passes}
+use Rattle.plugin_trait.specs.Finding.{finds_none}
 use Rattle.plugin_trait.specs.SilentRule.{silent_rule}
 use Rattle.plug_inject.specs.declared.inject_conf.InjectConf.{InjectConf}
 use Rattle.plug_inject.specs.declared.inject_conf.InjectMode.{InjectMode}
@@ -80,9 +82,16 @@ put_for how marks packet =
 abbrev pub injected : Injection → List (List ℕ) → List ℕ → List ℕ
 injected how older packet = put_for how (replaced_among how older) packet
 
--- every packet passes, or another one in its place; labels stay
+-- a packet is replaced, after these cells
+abbrev pub replaces : Injection → List Cell → List ℕ → ℕ → Bool
+replaces how history packet labels = is_replaced how (replaced_among how (reverse (live_packets history))) packet
+
+-- every packet passes, or another one in its place; labels stay. A run in which none is replaced has a fault
 abbrev pub injecting_rule : Injection → PluginRule
-injecting_rule how = silent_rule (λ history packet. passes (injected how (reverse (live_packets history)) packet))
+injecting_rule how =
+    record (silent_rule (λ history packet. passes (injected how (reverse (live_packets history)) packet))) {
+      has_fault = finds_none (replaces how);
+    }
 
 -- the rule of the settings, with the sections of their file
 abbrev pub inject_rule : InjectConf → List (List ℕ) → PluginRule

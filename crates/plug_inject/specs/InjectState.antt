@@ -2,11 +2,12 @@
 use Rattle.std.specs.Prelude.{◌≡◌, ◌≤◌, ◌-◌, ℕ, List, [], ◌∷◌, Bool, true, false, length, reverse}
 use Rattle.ts_packet.specs.declared.cell.Cell.{Cell}
 use Rattle.ts_packet.specs.Cells.{live_packets}
-use Rattle.plug_inject.specs.InjectRule.{Injection, put_in_among, replaced_among}
-use Rattle.plug_inject.specs.declared.inject.Inject.{Inject}
+use Rattle.plugin_trait.specs.Finding.{IsFirstFind}
+use Rattle.plug_inject.specs.InjectRule.{Injection, put_in_among, replaced_among, replaces}
+use Rattle.plug_inject.specs.declared.inject.InjectSteps.{InjectSteps}
 
 -- what the plugin inserts, and where
-abbrev pub how_of : Inject → Injection
+abbrev pub how_of : InjectSteps → Injection
 how_of s = record { contents = s.contents; target = s.target; kept = s.kept }
 
 -- how many more packets have to pass before one may be replaced, given how many have to pass after each replaced one
@@ -22,11 +23,10 @@ pub record Counts (how : Injection) (put_in wait : ℕ) (older : List (List ℕ)
   pub turn : wait ≡ wait_among how.kept (replaced_among how older)
 
 -- the same for a history of cells
-pub record Stands (how : Injection) (put_in wait : ℕ) (history : List Cell) (mark : ℕ) : Type 0 where
+pub record Stands (how : Injection) (put_in wait : ℕ) (history : List Cell) : Type 0 where
   pub counts : Counts how put_in wait (reverse (live_packets history))
   pub live : length (live_packets history) ≤ length history
-  pub marked : mark ≤ length history
 
--- and for a value of the plugin
-abbrev pub Meant : Inject → List Cell → ℕ → Type 0
-Meant s history mark = Stands (how_of s) s.put_in s.wait history mark
+-- and for a value of the steps, which keeps the first position at which a packet was replaced
+abbrev pub Meant : InjectSteps → List Cell → Type 0
+Meant s history = Stands (how_of s) s.put_in s.wait history × IsFirstFind (replaces (how_of s)) history s.found

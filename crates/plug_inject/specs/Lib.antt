@@ -4,3 +4,4 @@ pub mod InjectState
 pub mod InjectSettings
 pub mod InjectWords
 pub mod InjectedPlaces
+pub mod InjectEntry

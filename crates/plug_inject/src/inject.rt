@@ -1,19 +1,19 @@
 //! The plugin `inject`.
 ghost use Rattle.std.specs.Prelude.{◌≡◌, ◌<◌, ◌^◌, ◌∷◌, ℕ, List, [], None, IfOk, is_some};
-ghost use Rattle.plug_inject.specs.InjectRule.{inject_rule, injected, has_packets, packet_behind};
+ghost use Rattle.plug_inject.specs.InjectRule.{inject_rule, injected, is_replaced, replaced_among, has_packets, packet_behind};
 ghost use Rattle.plug_inject.specs.InjectSettings.{IsLawfulInject};
 ghost use Rattle.plug_inject.specs.InjectState.{Counts, how_of};
 
 use crate::inject_conf::{InjectConf, InjectMode};
-use plugin_trait::{Line, Outcome, Plugin, silent_report};
+use plugin_trait::{FirstFind, Outcome, Plugin, Silent, Steps};
 use std::alloc::{AllocError, Global};
-use ts_packet::{Cell, NULL_PID, Packet};
+use ts_packet::{Labels, NULL_PID, Packet};
 use ts_packetize::{PacketList, packets};
 use ts_section::Section;
 
 /// Inserts the packets of some sections repeatedly in the place of packets on their PID, or of null packets.
 #[derive(Drop)]
-pub struct Inject {
+pub struct InjectSteps {
     /// The PID of the packets that may be replaced.
     target: u16,
     /// How many packets just before a replaced one were not replaced.
@@ -23,38 +23,43 @@ pub struct Inject {
     put_in: u64,
     /// How many more packets have to pass before one may be replaced.
     wait: u64,
-    alloc: Global,
+    /// The first position at which a packet was replaced.
+    found: FirstFind,
 }
 
-impl Inject {
-    /// A new plugin, which has processed no cell. It allocates the packets of the sections; its steps allocate
-    /// nothing, and none of them returns `NoMemory`.
-    pub fn new(
-        alloc: Global,
-        conf: &InjectConf,
-        sections: Vec<Section>,
-    ) -> Result<Inject, AllocError>
-        requires { IsLawfulInject conf.now }
-        ensures rule { IfOk result (λ plugin. ⟦<Inject as Plugin>⟧.rule plugin ≡ inject_rule conf.now sections.items) }
-        ensures fresh { IfOk result (λ plugin. ⟦<Inject as Plugin>⟧.stands_for plugin [] 0) }
-        ensures steady { IfOk result (λ plugin. ⟦<Inject as Plugin>⟧.steady plugin ≡ None) }
-    {
-        let pid = conf.pid as u16;
-        let contents = packets(alloc, pid, sections.as_slice())?;
-        let (target, kept) = match conf.mode {
-            InjectMode::Replace => (pid, 0),
-            InjectMode::InterPacket(distance) => (NULL_PID, distance - 1),
-        };
-        Ok(Inject {
-            target,
-            kept,
-            contents,
-            put_in: 0,
-            wait: 0,
-            alloc,
-        })
-    }
+/// The plugin `inject`.
+pub type Inject = Silent<InjectSteps>;
 
+/// A new plugin, which has processed no cell. It allocates the packets of the sections; its steps allocate
+/// nothing, and none of them returns `NoMemory`.
+pub fn new_inject(
+    alloc: Global,
+    conf: &InjectConf,
+    sections: Vec<Section>,
+) -> Result<Inject, AllocError>
+    requires { IsLawfulInject conf.now }
+    ensures rule { IfOk result (λ plugin. ⟦<Inject as Plugin>⟧.rule plugin ≡ inject_rule conf.now sections.items) }
+    ensures fresh { IfOk result (λ plugin. ⟦<Inject as Plugin>⟧.stands_for plugin [] 0) }
+    ensures steady { IfOk result (λ plugin. ⟦<Inject as Plugin>⟧.steady plugin ≡ None) }
+{
+    let pid = conf.pid as u16;
+    let contents = packets(alloc, pid, sections.as_slice())?;
+    let (target, kept) = match conf.mode {
+        InjectMode::Replace => (pid, 0),
+        InjectMode::InterPacket(distance) => (NULL_PID, distance - 1),
+    };
+    let steps = InjectSteps {
+        target,
+        kept,
+        contents,
+        put_in: 0,
+        wait: 0,
+        found: FirstFind::none(),
+    };
+    Ok(Silent { steps })
+}
+
+impl InjectSteps {
     /// The PID of the packets that may be replaced.
     pub fn target(&self) -> u16 {
         self.target
@@ -84,78 +89,76 @@ impl Inject {
         Some(packet)
     }
 
-    /// Processes the next packet, and replaces it if it is its turn.
+    /// Processes the next packet, and replaces it if it is its turn. Returns whether it did.
     #[inline]
-    fn meet(&mut self, packet: &mut Packet)
+    fn meet(&mut self, packet: &mut Packet) -> bool
         requires { self.old.put_in < 2 ^ 63 }
+        ensures replaced { (older : List (List ℕ)) → Counts (how_of self.old) self.old.put_in self.old.wait older
+            → result ≡ is_replaced (how_of self.old) (replaced_among (how_of self.old) older) packet.old }
         ensures made { (older : List (List ℕ)) → Counts (how_of self.old) self.old.put_in self.old.wait older
             → packet.new ≡ injected (how_of self.old) older packet.old }
         ensures counts { (older : List (List ℕ)) → Counts (how_of self.old) self.old.put_in self.old.wait older
             → Counts (how_of self.old) self.new.put_in self.new.wait (packet.old ∷ older) }
         ensures same { how_of self.new ≡ how_of self.old }
+        ensures found { self.new.found ≡ self.old.found }
     {
         let wait = self.wait;
         self.wait = wait.saturating_sub(1);
         if wait > 0 {
-            return;
+            return false;
         }
         if packet.pid() != self.target {
-            return;
+            return false;
         }
         let Some(next) = self.next_packet() else {
-            return;
+            return false;
         };
         *packet = next;
         self.put_in += 1;
         self.wait = self.kept;
+        true
     }
 }
 
-impl Plugin for Inject {
-    ghost use Rattle.std.specs.Prelude.{◌≡◌, ◌≢◌, ◌<◌, None, refl, true};
-    ghost use Rattle.ts_packet.specs.Cells.{Dropped};
+impl Steps for InjectSteps {
+    ghost use Rattle.std.specs.Prelude.{◌≡◌, ◌≢◌, ◌<◌, None, refl};
+    ghost use Rattle.ts_packet.specs.Cells.{Live};
     ghost use Rattle.chain_model.specs.declared.positions.TheConstants.{POSITION_LIMIT};
-    ghost use Rattle.plugin_trait.specs.Steps.{MeetsCells, Tells, Meets};
+    ghost use Rattle.plugin_trait.specs.Steps.{MeetsCells, Tells, Meets, left_of};
+    ghost use Rattle.plugin_trait.specs.Unmarked.{unmarked};
     ghost use Rattle.plug_inject.specs.InjectRule.{injecting_rule};
     ghost use Rattle.plug_inject.specs.InjectState.{Meant, how_of};
 
     ghost rule = { λ s. injecting_rule (how_of s) };
 
-    ghost stands_for = { λ s history mark. Meant s history mark };
+    ghost stands_for = { λ s history. Meant s history };
 
     ghost steady = { λ s. None };
 
-    ghost silent = { λ _. true };
-
-    /// The clauses of `Plugin`, whose ghost members have no names here, and one more: no step returns `NoMemory`.
+    /// The clauses of `Steps`, whose ghost members have no names here, and one more: no step returns `NoMemory`.
     #[inline]
-    fn step(&mut self, _at: u64, cell: &mut Cell) -> Outcome
-        requires met { MeetsCells (Meant self.old) _at }
-        requires in_range { _at < POSITION_LIMIT }
-        ensures tells { Tells (injecting_rule (how_of self.old)) (Meant self.old) _at cell.old result cell.new }
-        ensures dropped { cell.old ≡ Dropped → result ≡ Outcome.Pass }
-        ensures meets { Meets (Meant self.old) (Meant self.new) _at cell.old result }
+    fn step(&mut self, at: u64, packet: &mut Packet, _labels: &mut Labels) -> Outcome
+        requires met { MeetsCells (unmarked (Meant self.old)) at }
+        requires in_range { at < POSITION_LIMIT }
+        ensures tells { Tells (injecting_rule (how_of self.old)) (unmarked (Meant self.old)) at
+            (Live packet.old _labels.old) result (left_of result packet.new _labels.new) }
+        ensures meets { Meets (unmarked (Meant self.old)) (unmarked (Meant self.new)) at
+            (Live packet.old _labels.old) result }
         ensures same_rule { injecting_rule (how_of self.new) ≡ injecting_rule (how_of self.old) }
         ensures no_memory { result ≢ Outcome.NoMemory }
     {
-        let Some(live) = cell.live_mut() else {
-            return Outcome::Pass;
-        };
-        self.meet(&mut live.packet);
+        let replaced = self.meet(packet);
+        self.found.meet(at, replaced);
         Outcome::Pass
     }
 
-    fn note(&mut self, _written: u64) -> Result<(), AllocError> {
-        Ok(())
+    fn pass_over(&mut self, _at: u64) {}
+
+    fn has_fault(&self, cut: u64) -> bool {
+        self.found.is_none_below(cut)
     }
 
-    fn agreed(&self) -> bool {
-        false
-    }
+    ghost quiet = { λ plugin. record { no_lines = λ history packet labels. refl; no_summary = λ history. refl } };
 
-    fn finish(&mut self, _cut: u64) -> Result<Vec<Line>, AllocError> {
-        Ok(silent_report(self.alloc))
-    }
-
-    ghost starts_open = { λ plugin history mark stands. refl };
+    ghost never_agrees = { λ plugin history. refl };
 }

@@ -1,31 +1,56 @@
 //! The options of `inject`.
 ghost use Rattle.std.specs.Prelude.{◌≡◌, IfOk};
-ghost use Rattle.clap.specs.Simple.{app_of};
-ghost use Rattle.option_words.specs.Options.{command_of};
 ghost use Rattle.option_words.specs.Refusal.{ReadsParsed};
 ghost use Rattle.plug_inject.specs.InjectSettings.{IsLawfulInject};
-ghost use Rattle.plug_inject.specs.InjectWords.{inject, inject_rows};
+ghost use Rattle.plug_inject.specs.InjectWords.{inject};
 
 use crate::inject_conf::{InjectConf, InjectMode, LAST_CARRIER};
-use clap::Command;
-use option_words::{OptionWord, ParsedOptions, Refusal, WordsRule, command_with};
+use option_words::{
+    Beside, Need, OptionRow, OptionText, OptionWord, ParsedOptions, Refusal, Takes, WordsRule,
+};
 use plug_conf::MOST_NUMBER;
-use std::alloc::{AllocError, Global};
+use plugin_entry::{PluginHelp, PluginSettings};
+use std::alloc::Global;
 
 // The options of `inject`.
-static INJECT: [OptionWord; 4] = [
-    OptionWord::Operand("operand"),
-    OptionWord::Value("pid"),
-    OptionWord::Flag("replace"),
-    OptionWord::Value("inter-packet"),
+static INJECT: [OptionRow; 4] = [
+    OptionRow {
+        word: OptionWord::Operand("operand", Takes::Text),
+        text: OptionText {
+            value: "FILE",
+            meaning: "a text of tables as JSON where the name ends in .json, and otherwise sections, one after another",
+            need: Need::Required,
+            beside: Beside::Any,
+        },
+    },
+    OptionRow {
+        word: OptionWord::Value("pid", Takes::Number(0, LAST_CARRIER)),
+        text: OptionText {
+            value: "PID",
+            meaning: "0 to 8190: the PID of the packets that are put in",
+            need: Need::Required,
+            beside: Beside::Any,
+        },
+    },
+    OptionRow {
+        word: OptionWord::Flag("replace"),
+        text: OptionText {
+            value: "",
+            meaning: "put them in the place of the packets on that PID",
+            need: Need::Required,
+            beside: Beside::Choice(1),
+        },
+    },
+    OptionRow {
+        word: OptionWord::Value("inter-packet", Takes::Number(1, MOST_NUMBER)),
+        text: OptionText {
+            value: "N",
+            meaning: "1 to 2^60: put one in the place of a null packet where none of the N - 1 packets before it was replaced",
+            need: Need::Required,
+            beside: Beside::Choice(1),
+        },
+    },
 ];
-
-/// The command of `inject`, with its options.
-pub fn inject_command<'a>(alloc: Global) -> Result<Command<'a>, AllocError>
-    ensures { IfOk result (λ c. app_of c ≡ command_of inject_rows) }
-{
-    command_with(alloc, &INJECT)
-}
 
 // Whether the file, the PID and one of the two modes are given.
 fn has_needed(found: &ParsedOptions) -> bool
@@ -43,8 +68,8 @@ fn goes_together(found: &ParsedOptions) -> bool
     !(found.has_flag("replace") && found.has_value("inter-packet"))
 }
 
-/// Reads the settings of `inject` from the options that its command found.
-pub fn inject_settings(alloc: Global, found: &ParsedOptions) -> Result<InjectConf, Refusal>
+// Reads the settings of `inject` from the options that its command found.
+fn inject_settings(alloc: Global, found: &ParsedOptions) -> Result<InjectConf, Refusal>
     ensures reads { ReadsParsed inject found.now result }
     ensures lawful { IfOk result IsLawfulInject }
 {
@@ -62,4 +87,40 @@ pub fn inject_settings(alloc: Global, found: &ParsedOptions) -> Result<InjectCon
         pid,
         mode: InjectMode::of(inter_packet),
     })
+}
+
+impl PluginSettings for InjectConf {
+    ghost use Rattle.std.specs.Prelude.{refl};
+    ghost use Rattle.plug_inject.specs.InjectEntry.{inject_entry};
+
+    ghost entry = { inject_entry };
+
+    fn name() -> &'static str {
+        "inject"
+    }
+
+    fn options() -> &'static [OptionRow<'static>] {
+        &INJECT
+    }
+
+    fn help() -> PluginHelp {
+        PluginHelp {
+            usage: "-P inject FILE --pid PID --replace | --inter-packet N",
+            rule: "The packets of these sections are put in over and over again, with counters from 0 on, and all other packets pass. The file is read once, before the input is opened. --inter-packet puts nothing into a stream without null packets: --add-input-stuffing 1/99 puts one into each hundred.",
+        }
+    }
+
+    fn read(alloc: Global, found: &ParsedOptions) -> Result<InjectConf, Refusal> {
+        inject_settings(alloc, found)
+    }
+
+    fn table_file(&self) -> Option<&str> {
+        Some(self.file.as_str())
+    }
+
+    fn uses_joint_termination(&self) -> bool {
+        false
+    }
+
+    ghost simple = { refl };
 }

@@ -8,7 +8,6 @@ mod inject_conf;
 mod inject_words;
 mod laws;
 
-pub use inject::Inject;
+pub use inject::{Inject, InjectSteps, new_inject};
 pub use inject_conf::{InjectConf, InjectMode, LAST_CARRIER};
-pub use inject_words::{inject_command, inject_settings};
 pub use laws::cycles_are_put_in;

@@ -9,3 +9,4 @@ pub mod RemapState
 pub mod RemapSettings
 pub mod RemapWords
 pub mod MoveTables
+pub mod RemapEntry

@@ -1,12 +1,14 @@
 -- The rule of `remap`. This project's own rule, over the PID of ISO/IEC 13818-1, 2.4.3.2, and over the PIDs that PAT,
 -- CAT and PMT name (2.4.4).
 use Rattle.std.specs.Prelude.{ℕ, List, [], ◌∷◌, ◌++◌, Bool, not, Option, None, Some, is_some, nat_eq, ◌==◌, ◌&&◌, ◌||◌, if◌then◌else◌}
+use Rattle.ts_packet.specs.declared.cell.Cell.{Cell}
 use Rattle.ts_packet.specs.Cells.{live_packets}
 use Rattle.ts_packet.specs.Header.{pid_of, with_pid}
 use Rattle.ts_packet.specs.declared.numbers.TheConstants.{NULL_PID}
 use Rattle.ts_demux.specs.TakenWhere.{taken_on}
 use Rattle.chain_model.specs.declared.reason.Reason.TheVariants.{Pid}
-use Rattle.chain_model.specs.PluginRule.{PluginRule, passes, refuses}
+use Rattle.chain_model.specs.PluginRule.{PluginRule, RuleOutcome, passes, refuses}
+use Rattle.plugin_trait.specs.Finding.{finds_none}
 use Rattle.plugin_trait.specs.SilentRule.{silent_rule}
 use Rattle.plug_psi.specs.EditedCycles.{replaced}
 use Rattle.plug_psi.specs.InForce.{follows}
@@ -58,8 +60,17 @@ mapped_packet conf packets packet =
     if conf.no_psi then moved_to (target_of conf.operand (pid_of packet)) packet
     else with_tables conf.operand packets packet
 
--- Whether a packet is refused depends on the PID with which it comes in, and is decided before anything else.
-abbrev pub remap_rule : RemapConf → PluginRule
-remap_rule conf = silent_rule (λ history packet.
+-- what becomes of a packet, after these cells; whether it is refused depends on the PID with which it comes in, and is
+-- decided before anything else
+abbrev pub remapped : RemapConf → List Cell → List ℕ → RuleOutcome
+remapped conf history packet =
     if is_refused conf (pid_of packet) then refuses (Pid (pid_of packet))
-    else passes (mapped_packet conf (live_packets history) packet))
+    else passes (mapped_packet conf (live_packets history) packet)
+
+-- a packet comes in on a PID that is moved
+abbrev pub moves : List (ℕ × ℕ) → List Cell → List ℕ → ℕ → Bool
+moves pairs history packet labels = is_some (target_of pairs (pid_of packet))
+
+-- every packet passes, edited and moved, or is refused. A run in which none comes in on a PID that is moved has a fault
+abbrev pub remap_rule : RemapConf → PluginRule
+remap_rule conf = record (silent_rule (remapped conf)) { has_fault = finds_none (moves conf.operand) }

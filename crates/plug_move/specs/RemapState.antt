@@ -6,14 +6,15 @@ use Rattle.ts_packet.specs.Header.{pid_of}
 use Rattle.plugin_trait.specs.declared.outcome.Outcome.{Outcome}
 use Rattle.plugin_trait.specs.declared.outcome.Outcome.TheVariants.{Pass, NoMemory}
 use Rattle.plug_move.specs.MapperState.{StandsFor, has_failed}
-use Rattle.plug_move.specs.RemapRule.{moved_to, with_tables}
+use Rattle.plugin_trait.specs.Finding.{IsFirstFind}
+use Rattle.plug_move.specs.RemapRule.{moved_to, moves, with_tables}
 use Rattle.plug_move.specs.Targets.{target_of}
 use Rattle.plug_move.specs.declared.remap_conf.RemapConf.{RemapConf}
-use Rattle.plug_move.specs.declared.remap.Remap.{Remap}
+use Rattle.plug_move.specs.declared.remap.RemapSteps.{RemapSteps}
 use Rattle.plug_move.specs.declared.table_mapper.TableMapper.{TableMapper}
 
 -- the settings of the plugin
-abbrev pub conf_of : Remap → RemapConf
+abbrev pub conf_of : RemapSteps → RemapConf
 conf_of s = record { operand = s.table.0; no_psi = is_none s.tables; unchecked = s.table.1 }
 
 -- what edits tables, if anything does, stands for the packets that were processed, unless memory ran out
@@ -24,6 +25,10 @@ MapperStands pairs (Some mapper) met = has_failed mapper ≡ false → StandsFor
 -- the same for the cells that were processed
 abbrev pub TablesStand : List (ℕ × ℕ) → Option TableMapper → List Cell → Type 0
 TablesStand pairs tables history = MapperStands pairs tables (live_packets history)
+
+-- and for a value of the steps, which keeps the first position at which a packet was moved
+abbrev pub MeetsHistory : RemapSteps → List Cell → Type 0
+MeetsHistory s history = TablesStand s.table.0 s.tables history × IsFirstFind (moves s.table.0) history s.found
 
 -- memory ran out
 abbrev pub HasFailed : Option TableMapper → Type 0

@@ -15,6 +15,5 @@ mod remap_words;
 mod table_mapper;
 
 pub use move_table::{Move, MoveTable};
-pub use remap::Remap;
+pub use remap::{Remap, RemapSteps, new_remap};
 pub use remap_conf::RemapConf;
-pub use remap_words::{remap_command, remap_settings};

@@ -11,9 +11,9 @@ use crate::move_table::{Move, MoveTable};
 use crate::remap_conf::RemapConf;
 use crate::table_mapper::{TableMapper, move_to};
 use plug_psi::Changes;
-use plugin_trait::{Line, Outcome, Plugin, Reason, silent_report};
+use plugin_trait::{FirstFind, Outcome, Plugin, Reason, Silent, Steps};
 use std::alloc::{AllocError, Global};
-use ts_packet::{Cell, PID_COUNT, Packet};
+use ts_packet::{Labels, PID_COUNT, Packet};
 
 /// Moves packets to other PIDs. Unless targets are unchecked, it refuses a packet that comes in on a target which is not a
 /// source. Unless tables are left as they are, the PIDs that PAT, CAT and PMTs name are mapped too.
@@ -21,37 +21,39 @@ use ts_packet::{Cell, PID_COUNT, Packet};
 /// If tables are edited, a step may run out of memory. Then every later step on a live cell does too, unless its packet is
 /// refused.
 #[derive(Drop)]
-pub struct Remap {
+pub struct RemapSteps {
     table: MoveTable,
     tables: Option<TableMapper>,
-    /// Whether a packet was moved.
-    moved: bool,
+    /// The first position at which a packet was moved.
+    found: FirstFind,
     buffer: usize,
-    alloc: Global,
 }
 
-impl Remap {
-    /// A new plugin, which has processed no cell. It allocates its table of PIDs; its steps allocate nothing if tables are
-    /// left as they are.
-    pub fn new(alloc: Global, conf: &RemapConf, buffer: usize) -> Result<Remap, AllocError>
-        requires { IsLawfulRemap conf.now }
-        ensures rule { IfOk result (λ plugin. ⟦<Remap as Plugin>⟧.rule plugin ≡ remap_rule conf.now) }
-        ensures fresh { IfOk result (λ plugin. ⟦<Remap as Plugin>⟧.stands_for plugin [] 0) }
-        ensures steady { IfOk result (λ plugin. ⟦<Remap as Plugin>⟧.steady plugin
-            ≡ (if conf.now.no_psi then Some buffer else None)) }
-    {
-        Ok(Remap {
-            table: MoveTable::of(alloc, &conf.operand, conf.unchecked)?,
-            tables: tables_of(alloc, conf)?,
-            moved: false,
-            buffer,
-            alloc,
-        })
-    }
+/// The plugin `remap`.
+pub type Remap = Silent<RemapSteps>;
 
+/// A new plugin, which has processed no cell. It allocates its table of PIDs; its steps allocate nothing if tables are
+/// left as they are.
+pub fn new_remap(alloc: Global, conf: &RemapConf, buffer: usize) -> Result<Remap, AllocError>
+    requires { IsLawfulRemap conf.now }
+    ensures rule { IfOk result (λ plugin. ⟦<Remap as Plugin>⟧.rule plugin ≡ remap_rule conf.now) }
+    ensures fresh { IfOk result (λ plugin. ⟦<Remap as Plugin>⟧.stands_for plugin [] 0) }
+    ensures steady { IfOk result (λ plugin. ⟦<Remap as Plugin>⟧.steady plugin
+        ≡ (if conf.now.no_psi then Some buffer else None)) }
+{
+    let steps = RemapSteps {
+        table: MoveTable::of(alloc, &conf.operand, conf.unchecked)?,
+        tables: tables_of(alloc, conf)?,
+        found: FirstFind::none(),
+        buffer,
+    };
+    Ok(Silent { steps })
+}
+
+impl RemapSteps {
     /// Whether a packet came on one of the PIDs that are moved.
     pub fn has_moved(&self) -> bool {
-        self.moved
+        !self.found.is_none_below(u64::MAX)
     }
 
     /// Adds the PIDs whose tables are edited, if tables changed there without a new version.
@@ -63,49 +65,40 @@ impl Remap {
     }
 }
 
-impl Plugin for Remap {
-    ghost use Rattle.std.specs.Prelude.{◌≤◌, length, refl, true};
+impl Steps for RemapSteps {
+    ghost use Rattle.std.specs.Prelude.{refl};
     ghost use Rattle.plug_move.specs.RemapRule.{remap_rule};
-    ghost use Rattle.plug_move.specs.RemapState.{TablesStand, conf_of, room_of};
+    ghost use Rattle.plug_move.specs.RemapState.{MeetsHistory, conf_of, room_of};
 
     ghost rule = { λ s. remap_rule (conf_of s) };
 
-    ghost stands_for = { λ s history mark. TablesStand s.table.0 s.tables history × (mark ≤ length history) };
+    ghost stands_for = { λ s history. MeetsHistory s history };
 
     ghost steady = { λ s. room_of s.tables s.buffer };
 
-    ghost silent = { λ _. true };
-
     #[inline]
-    fn step(&mut self, at: u64, cell: &mut Cell) -> Outcome {
-        let Some(live) = cell.live_mut() else {
-            return Outcome::Pass;
-        };
-        let packet = &mut live.packet;
+    fn step(&mut self, at: u64, packet: &mut Packet, _labels: &mut Labels) -> Outcome {
         let pid = packet.pid();
         match self.table.look_up(pid) {
             Move::Keep => go_on(&mut self.tables, at, packet, None),
             Move::To(target) => {
-                self.moved = true;
-                go_on(&mut self.tables, at, packet, Some(target))
+                let outcome = go_on(&mut self.tables, at, packet, Some(target));
+                self.found.meet(at, outcome == Outcome::Pass);
+                outcome
             }
             Move::Refuse => Outcome::Refuse(Reason::Pid(pid)),
         }
     }
 
-    fn note(&mut self, _written: u64) -> Result<(), AllocError> {
-        Ok(())
+    fn pass_over(&mut self, _at: u64) {}
+
+    fn has_fault(&self, cut: u64) -> bool {
+        self.found.is_none_below(cut)
     }
 
-    fn agreed(&self) -> bool {
-        false
-    }
+    ghost quiet = { λ plugin. record { no_lines = λ history packet labels. refl; no_summary = λ history. refl } };
 
-    fn finish(&mut self, _cut: u64) -> Result<Vec<Line>, AllocError> {
-        Ok(silent_report(self.alloc))
-    }
-
-    ghost starts_open = { λ plugin history mark stands. refl };
+    ghost never_agrees = { λ plugin history. refl };
 }
 
 /// The mapper that edits tables; `None` if they are left as they are.

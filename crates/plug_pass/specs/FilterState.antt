@@ -1,9 +1,9 @@
 -- The settings that a value of `filter` has. This project's own rule.
 use Rattle.plug_pass.specs.declared.filter_conf.FilterConf.{FilterConf}
-use Rattle.plug_pass.specs.declared.filter.Filter.{Filter}
+use Rattle.plug_pass.specs.declared.filter.FilterSteps.{FilterSteps}
 
 -- the settings of the plugin
-abbrev pub conf_of : Filter → FilterConf
+abbrev pub conf_of : FilterSteps → FilterConf
 conf_of s = record {
   pid = s.pids;
   pcr = s.pcr;

@@ -14,3 +14,7 @@ pub mod SliceSettings
 pub mod SliceWords
 pub mod PatternSettings
 pub mod PatternWords
+pub mod FilterEntry
+pub mod PatternEntry
+pub mod SkipEntry
+pub mod SliceEntry

@@ -4,10 +4,10 @@ use Rattle.plug_pass.specs.PatternSettings.{IsOffset}
 use Rattle.ts_packet.specs.declared.numbers.TheConstants.{PAYLOAD_SIZE}
 use Rattle.plug_pass.specs.PatternRule.{repeated}
 use Rattle.plug_pass.specs.declared.pattern_conf.PatternConf.{PatternConf}
-use Rattle.plug_pass.specs.declared.pattern.Pattern.{Pattern}
+use Rattle.plug_pass.specs.declared.pattern.PatternSteps.{PatternSteps}
 
 -- the settings of the plugin
-abbrev pub conf_of : Pattern → PatternConf
+abbrev pub conf_of : PatternSteps → PatternConf
 conf_of s = record {
   operand = s.pattern;
   pid = s.pids;

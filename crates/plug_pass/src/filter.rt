@@ -2,17 +2,18 @@
 
 ghost use Rattle.std.specs.Prelude.{◌≡◌, IfOk, [], Some};
 ghost use Rattle.plug_pass.specs.FilterRule.{filter_rule};
+ghost use Rattle.plug_pass.specs.FilterSettings.{IsLawfulFilter};
 
 use crate::filter_conf::FilterConf;
 use plug_conf::{LabelList, PidSet};
-use plugin_trait::{Line, Outcome, Plugin, silent_report};
+use plugin_trait::{Outcome, Plugin, Silent, Steps};
 use std::alloc::{AllocError, Global};
-use ts_packet::{Cell, Labels, Packet};
+use ts_packet::{Labels, Packet};
 
 /// Selects the packets that meet one of its conditions, or with `negate` those that meet none. It passes these alone,
 /// or, where it sets labels, every packet, and adds the labels to those of the selected ones.
 #[derive(Drop)]
-pub struct Filter {
+pub struct FilterSteps {
     pids: PidSet,
     pcr: bool,
     unit_start: bool,
@@ -22,35 +23,36 @@ pub struct Filter {
     stuffing: bool,
     set_label: LabelList,
     buffer: usize,
-    alloc: Global,
 }
 
-impl Filter {
-    ghost use Rattle.plug_pass.specs.FilterSettings.{IsLawfulFilter};
+/// The plugin `filter`.
+pub type Filter = Silent<FilterSteps>;
+
+/// A plugin that met no cell yet. It takes room for its table of PIDs and its lists of labels, and its steps take
+/// none.
+pub fn new_filter(alloc: Global, conf: &FilterConf, buffer: usize) -> Result<Filter, AllocError>
+    requires { IsLawfulFilter conf.now }
+    ensures rule { IfOk result (λ plugin. ⟦<Filter as Plugin>⟧.rule plugin ≡ filter_rule conf.now) }
+    ensures fresh { IfOk result (λ plugin. ⟦<Filter as Plugin>⟧.stands_for plugin [] 0) }
+    ensures steady { IfOk result (λ plugin. ⟦<Filter as Plugin>⟧.steady plugin ≡ Some buffer) }
+{
+    let steps = FilterSteps {
+        pids: PidSet::of(alloc, &conf.pid)?,
+        pcr: conf.pcr,
+        unit_start: conf.unit_start,
+        scrambled: conf.scrambled,
+        label: LabelList::of(alloc, &conf.label)?,
+        negate: conf.negate,
+        stuffing: conf.stuffing,
+        set_label: LabelList::of(alloc, &conf.set_label)?,
+        buffer,
+    };
+    Ok(Silent { steps })
+}
+
+impl FilterSteps {
     ghost use Rattle.plug_pass.specs.FilterRule.{meets_condition, selects};
     ghost use Rattle.plug_pass.specs.FilterState.{conf_of};
-
-    /// A plugin that met no cell yet. It takes room for its table of PIDs and its lists of labels, and its steps take
-    /// none.
-    pub fn new(alloc: Global, conf: &FilterConf, buffer: usize) -> Result<Filter, AllocError>
-        requires { IsLawfulFilter conf.now }
-        ensures rule { IfOk result (λ plugin. ⟦<Filter as Plugin>⟧.rule plugin ≡ filter_rule conf.now) }
-        ensures fresh { IfOk result (λ plugin. ⟦<Filter as Plugin>⟧.stands_for plugin [] 0) }
-        ensures steady { IfOk result (λ plugin. ⟦<Filter as Plugin>⟧.steady plugin ≡ Some buffer) }
-    {
-        Ok(Filter {
-            pids: PidSet::of(alloc, &conf.pid)?,
-            pcr: conf.pcr,
-            unit_start: conf.unit_start,
-            scrambled: conf.scrambled,
-            label: LabelList::of(alloc, &conf.label)?,
-            negate: conf.negate,
-            stuffing: conf.stuffing,
-            set_label: LabelList::of(alloc, &conf.set_label)?,
-            buffer,
-            alloc,
-        })
-    }
 
     // Whether one of the conditions that are given holds of the packet or of its labels.
     #[inline]
@@ -73,29 +75,24 @@ impl Filter {
     }
 }
 
-impl Plugin for Filter {
-    ghost use Rattle.std.specs.Prelude.{◌≤◌, length, Some, refl, true};
+impl Steps for FilterSteps {
+    ghost use Rattle.std.specs.Prelude.{Some, refl};
     ghost use Rattle.plug_pass.specs.FilterRule.{filter_rule};
     ghost use Rattle.plug_pass.specs.FilterState.{conf_of};
 
     ghost rule = { λ s. filter_rule (conf_of s) };
 
-    ghost stands_for = { λ s history mark. mark ≤ length history };
+    ghost stands_for = { λ s history. Unit {0} };
 
     ghost steady = { λ s. Some s.buffer };
 
-    ghost silent = { λ _. true };
-
     // Inlined: otherwise the loop of `steps` has a call for each cell.
     #[inline(always)]
-    fn step(&mut self, _at: u64, cell: &mut Cell) -> Outcome {
-        let Some(live) = cell.live_mut() else {
-            return Outcome::Pass;
-        };
-        let is_selected = self.selects(&live.packet, live.labels);
+    fn step(&mut self, _at: u64, packet: &mut Packet, labels: &mut Labels) -> Outcome {
+        let is_selected = self.selects(packet, *labels);
         if !self.set_label.is_empty() {
             if is_selected {
-                live.labels = live.labels.union(self.set_label.labels());
+                *labels = labels.union(self.set_label.labels());
             }
             return Outcome::Pass;
         }
@@ -103,24 +100,19 @@ impl Plugin for Filter {
             return Outcome::Pass;
         }
         if self.stuffing {
-            live.packet = Packet::null();
+            *packet = Packet::null();
             return Outcome::Pass;
         }
-        cell.drop_packet();
         Outcome::Drop
     }
 
-    fn note(&mut self, _written: u64) -> Result<(), AllocError> {
-        Ok(())
-    }
+    fn pass_over(&mut self, _at: u64) {}
 
-    fn agreed(&self) -> bool {
+    fn has_fault(&self, _cut: u64) -> bool {
         false
     }
 
-    fn finish(&mut self, _cut: u64) -> Result<Vec<Line>, AllocError> {
-        Ok(silent_report(self.alloc))
-    }
+    ghost quiet = { λ plugin. record { no_lines = λ history packet labels. refl; no_summary = λ history. refl } };
 
-    ghost starts_open = { λ plugin history mark stands. refl };
+    ghost never_agrees = { λ plugin history. refl };
 }

@@ -1,36 +1,93 @@
 //! The options of `filter`, and its settings from their values.
 
 ghost use Rattle.std.specs.Prelude.{◌≡◌, IfOk};
-ghost use Rattle.clap.specs.Simple.{app_of};
 ghost use Rattle.plug_pass.specs.FilterSettings.{IsLawfulFilter};
-ghost use Rattle.plug_pass.specs.FilterWords.{filter, filter_rows};
-ghost use Rattle.option_words.specs.Options.{command_of};
+ghost use Rattle.plug_pass.specs.FilterWords.{filter};
 ghost use Rattle.option_words.specs.Refusal.{ReadsParsed};
 
 use crate::filter_conf::FilterConf;
-use clap::Command;
-use option_words::{OptionWord, ParsedOptions, Refusal, WordsRule, command_with};
+use option_words::{
+    Beside, Need, OptionRow, OptionText, OptionWord, ParsedOptions, Refusal, Takes, WordsRule,
+};
 use plug_conf::{LAST_LABEL, LAST_PID};
-use std::alloc::{AllocError, Global};
+use plugin_entry::{PluginHelp, PluginSettings};
+use std::alloc::Global;
 
 // The options of `filter`, of which the first five are conditions.
-static FILTER: [OptionWord; 8] = [
-    OptionWord::Value("pid"),
-    OptionWord::Flag("pcr"),
-    OptionWord::Flag("unit-start"),
-    OptionWord::Flag("scrambled"),
-    OptionWord::Value("label"),
-    OptionWord::Flag("negate"),
-    OptionWord::Flag("stuffing"),
-    OptionWord::Value("set-label"),
+static FILTER: [OptionRow; 8] = [
+    OptionRow {
+        word: OptionWord::Value("pid", Takes::Ranges(LAST_PID)),
+        text: OptionText {
+            value: "LIST",
+            meaning: "0 to 8191: condition: the PID is in the list",
+            need: Need::OneOf,
+            beside: Beside::Any,
+        },
+    },
+    OptionRow {
+        word: OptionWord::Flag("pcr"),
+        text: OptionText {
+            value: "",
+            meaning: "condition: the packet carries a PCR",
+            need: Need::OneOf,
+            beside: Beside::Any,
+        },
+    },
+    OptionRow {
+        word: OptionWord::Flag("unit-start"),
+        text: OptionText {
+            value: "",
+            meaning: "condition: the payload unit start indicator is set",
+            need: Need::OneOf,
+            beside: Beside::Any,
+        },
+    },
+    OptionRow {
+        word: OptionWord::Flag("scrambled"),
+        text: OptionText {
+            value: "",
+            meaning: "condition: the scrambling control is not 0",
+            need: Need::OneOf,
+            beside: Beside::Any,
+        },
+    },
+    OptionRow {
+        word: OptionWord::Value("label", Takes::Ranges(LAST_LABEL)),
+        text: OptionText {
+            value: "LIST",
+            meaning: "0 to 31: condition: the packet has a label of the list",
+            need: Need::OneOf,
+            beside: Beside::Any,
+        },
+    },
+    OptionRow {
+        word: OptionWord::Flag("negate"),
+        text: OptionText {
+            value: "",
+            meaning: "select the packets that meet no condition",
+            need: Need::Free,
+            beside: Beside::Any,
+        },
+    },
+    OptionRow {
+        word: OptionWord::Flag("stuffing"),
+        text: OptionText {
+            value: "",
+            meaning: "put a null packet in the place of each packet that would be dropped",
+            need: Need::Free,
+            beside: Beside::Choice(1),
+        },
+    },
+    OptionRow {
+        word: OptionWord::Value("set-label", Takes::Ranges(LAST_LABEL)),
+        text: OptionText {
+            value: "LIST",
+            meaning: "0 to 31: pass all packets, and give the selected ones these labels",
+            need: Need::Free,
+            beside: Beside::Choice(1),
+        },
+    },
 ];
-
-/// The command of `filter`, which has its options.
-pub fn filter_command<'a>(alloc: Global) -> Result<Command<'a>, AllocError>
-    ensures { IfOk result (λ c. app_of c ≡ command_of filter_rows) }
-{
-    command_with(alloc, &FILTER)
-}
 
 // Whether one of the five conditions is given.
 fn has_condition(found: &ParsedOptions) -> bool
@@ -43,8 +100,8 @@ fn has_condition(found: &ParsedOptions) -> bool
         || found.has_value("label")
 }
 
-/// Reads the settings of `filter` from what its command found in the words.
-pub fn filter_settings(alloc: Global, found: &ParsedOptions) -> Result<FilterConf, Refusal>
+// Reads the settings of `filter` from what its command found in the words.
+fn filter_settings(alloc: Global, found: &ParsedOptions) -> Result<FilterConf, Refusal>
     ensures reads { ReadsParsed filter found.now result }
     ensures lawful { IfOk result IsLawfulFilter }
 {
@@ -68,4 +125,40 @@ pub fn filter_settings(alloc: Global, found: &ParsedOptions) -> Result<FilterCon
         return Err(Refusal::Broken(WordsRule::Conflict));
     }
     Ok(conf)
+}
+
+impl PluginSettings for FilterConf {
+    ghost use Rattle.std.specs.Prelude.{refl};
+    ghost use Rattle.plug_pass.specs.FilterEntry.{filter_entry};
+
+    ghost entry = { filter_entry };
+
+    fn name() -> &'static str {
+        "filter"
+    }
+
+    fn options() -> &'static [OptionRow<'static>] {
+        &FILTER
+    }
+
+    fn help() -> PluginHelp {
+        PluginHelp {
+            usage: "-P filter [--pid LIST] [--pcr] [--unit-start] [--scrambled] [--label LIST] [--negate] [--stuffing | --set-label LIST]",
+            rule: "A packet is selected where it meets at least one of the given conditions, and one has to be given. The selected packets pass and the others are dropped, unless --set-label is given.",
+        }
+    }
+
+    fn read(alloc: Global, found: &ParsedOptions) -> Result<FilterConf, Refusal> {
+        filter_settings(alloc, found)
+    }
+
+    fn table_file(&self) -> Option<&str> {
+        None
+    }
+
+    fn uses_joint_termination(&self) -> bool {
+        false
+    }
+
+    ghost simple = { refl };
 }

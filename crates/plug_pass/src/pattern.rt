@@ -2,17 +2,18 @@
 
 ghost use Rattle.std.specs.Prelude.{◌≡◌, ◌≤◌, ◌<◌, IfOk, ℕ, List, [], Some, length};
 ghost use Rattle.plug_pass.specs.PatternRule.{pattern_rule, repeated, patterned_from};
+ghost use Rattle.plug_pass.specs.PatternSettings.{IsLawfulPattern};
 
 use crate::pattern_conf::PatternConf;
 use plug_conf::PidSet;
-use plugin_trait::{Line, Outcome, Plugin, silent_report};
+use plugin_trait::{Outcome, Plugin, Silent, Steps};
 use std::alloc::{AllocError, Global};
 use ts_outside::FileBytes;
-use ts_packet::{Cell, PACKET_SIZE, PAYLOAD_SIZE, Packet};
+use ts_packet::{Labels, PACKET_SIZE, PAYLOAD_SIZE, Packet};
 
 /// Writes a pattern over the payloads of packets on selected PIDs.
 #[derive(Drop)]
-pub struct Pattern {
+pub struct PatternSteps {
     pattern: FileBytes,
     pids: PidSet,
     negate: bool,
@@ -21,34 +22,35 @@ pub struct Pattern {
     /// The pattern repeated, as long as the longest payload.
     filled: [u8; PAYLOAD_SIZE],
     buffer: usize,
-    alloc: Global,
 }
 
-impl Pattern {
-    ghost use Rattle.std.specs.Prelude.{◌≡◌, [], Some, IfOk, unwrap_or};
-    ghost use Rattle.plug_pass.specs.PatternSettings.{IsLawfulPattern};
-    ghost use Rattle.plug_pass.specs.PatternRule.{pattern_rule, offset_for, edited};
-    ghost use Rattle.plug_pass.specs.PatternState.{conf_of, IsMade};
+/// The plugin `pattern`.
+pub type Pattern = Silent<PatternSteps>;
 
-    /// A plugin that met no cell yet. It takes room for its pattern and its table of PIDs, and its steps
-    /// take none.
-    pub fn new(alloc: Global, conf: &PatternConf, buffer: usize) -> Result<Pattern, AllocError>
-        requires { IsLawfulPattern conf.now }
-        ensures rule { IfOk result (λ plugin. ⟦<Pattern as Plugin>⟧.rule plugin ≡ pattern_rule conf.now) }
-        ensures fresh { IfOk result (λ plugin. ⟦<Pattern as Plugin>⟧.stands_for plugin [] 0) }
-        ensures steady { IfOk result (λ plugin. ⟦<Pattern as Plugin>⟧.steady plugin ≡ Some buffer) }
-    {
-        Ok(Pattern {
-            pattern: conf.operand.copy()?,
-            pids: PidSet::of(alloc, &conf.pid)?,
-            negate: conf.negate,
-            offset_pusi: conf.offset_pusi,
-            offset_non_pusi: conf.offset_non_pusi,
-            filled: filled_with(conf.operand.as_slice()),
-            buffer,
-            alloc,
-        })
-    }
+/// A plugin that met no cell yet. It takes room for its pattern and its table of PIDs, and its steps
+/// take none.
+pub fn new_pattern(alloc: Global, conf: &PatternConf, buffer: usize) -> Result<Pattern, AllocError>
+    requires { IsLawfulPattern conf.now }
+    ensures rule { IfOk result (λ plugin. ⟦<Pattern as Plugin>⟧.rule plugin ≡ pattern_rule conf.now) }
+    ensures fresh { IfOk result (λ plugin. ⟦<Pattern as Plugin>⟧.stands_for plugin [] 0) }
+    ensures steady { IfOk result (λ plugin. ⟦<Pattern as Plugin>⟧.steady plugin ≡ Some buffer) }
+{
+    let steps = PatternSteps {
+        pattern: conf.operand.copy()?,
+        pids: PidSet::of(alloc, &conf.pid)?,
+        negate: conf.negate,
+        offset_pusi: conf.offset_pusi,
+        offset_non_pusi: conf.offset_non_pusi,
+        filled: filled_with(conf.operand.as_slice()),
+        buffer,
+    };
+    Ok(Silent { steps })
+}
+
+impl PatternSteps {
+    ghost use Rattle.std.specs.Prelude.{◌≡◌};
+    ghost use Rattle.plug_pass.specs.PatternRule.{offset_for, edited};
+    ghost use Rattle.plug_pass.specs.PatternState.{conf_of, IsMade};
 
     // Where in the payload the pattern begins.
     fn offset_for(&self, packet: &Packet) -> u64
@@ -94,41 +96,32 @@ fn filled_with(pattern: &[u8]) -> [u8; PAYLOAD_SIZE]
     filled
 }
 
-impl Plugin for Pattern {
-    ghost use Rattle.std.specs.Prelude.{◌≡◌, ◌≤◌, length, Some, refl, true};
+impl Steps for PatternSteps {
+    ghost use Rattle.std.specs.Prelude.{Some, refl};
     ghost use Rattle.plug_pass.specs.PatternRule.{pattern_rule, repeated};
     ghost use Rattle.plug_pass.specs.PatternState.{conf_of, IsMade};
 
     ghost rule = { λ s. pattern_rule (conf_of s) };
 
-    ghost stands_for = { λ s history mark. IsMade s.filled s.pattern s.offset_pusi s.offset_non_pusi × (mark ≤ length history) };
+    ghost stands_for = { λ s history. IsMade s.filled s.pattern s.offset_pusi s.offset_non_pusi };
 
     ghost steady = { λ s. Some s.buffer };
 
-    ghost silent = { λ _. true };
-
     #[inline]
-    fn step(&mut self, _at: u64, cell: &mut Cell) -> Outcome {
-        let Some(live) = cell.live_mut() else {
-            return Outcome::Pass;
-        };
-        self.edit(&mut live.packet);
+    fn step(&mut self, _at: u64, packet: &mut Packet, _labels: &mut Labels) -> Outcome {
+        self.edit(packet);
         Outcome::Pass
     }
 
-    fn note(&mut self, _written: u64) -> Result<(), AllocError> {
-        Ok(())
-    }
+    fn pass_over(&mut self, _at: u64) {}
 
-    fn agreed(&self) -> bool {
+    fn has_fault(&self, _cut: u64) -> bool {
         false
     }
 
-    fn finish(&mut self, _cut: u64) -> Result<Vec<Line>, AllocError> {
-        Ok(silent_report(self.alloc))
-    }
+    ghost quiet = { λ plugin. record { no_lines = λ history packet labels. refl; no_summary = λ history. refl } };
 
-    ghost starts_open = { λ plugin history mark stands. refl };
+    ghost never_agrees = { λ plugin history. refl };
 }
 
 // Writes a pattern from a place to the packet's end, where the place is in the packet.

@@ -1,37 +1,70 @@
 //! The options of `pattern`, and its settings from their values.
 
 ghost use Rattle.std.specs.Prelude.{◌≡◌, IfOk};
-ghost use Rattle.clap.specs.Simple.{app_of};
 ghost use Rattle.plug_pass.specs.PatternSettings.{IsLawfulPattern};
-ghost use Rattle.plug_pass.specs.PatternWords.{pattern, pattern_rows};
-ghost use Rattle.option_words.specs.Options.{command_of};
+ghost use Rattle.plug_pass.specs.PatternWords.{pattern};
 ghost use Rattle.option_words.specs.Refusal.{ReadsParsed};
 
 use crate::pattern_conf::PatternConf;
-use clap::Command;
-use option_words::{OptionWord, ParsedOptions, Refusal, WordsRule, command_with};
+use option_words::{
+    Beside, Need, OptionRow, OptionText, OptionWord, ParsedOptions, Refusal, Takes, WordsRule,
+};
 use plug_conf::{LAST_OFFSET, LAST_PID};
-use std::alloc::{AllocError, Global};
+use plugin_entry::{PluginHelp, PluginSettings};
+use std::alloc::Global;
 use ts_packet::PAYLOAD_SIZE;
 
 // The options of `pattern`.
-static PATTERN: [OptionWord; 5] = [
-    OptionWord::Operand("operand"),
-    OptionWord::Value("pid"),
-    OptionWord::Value("offset-pusi"),
-    OptionWord::Value("offset-non-pusi"),
-    OptionWord::Flag("negate"),
+static PATTERN: [OptionRow; 5] = [
+    OptionRow {
+        word: OptionWord::Operand("operand", Takes::Bytes(1, PAYLOAD_SIZE)),
+        text: OptionText {
+            value: "HEX",
+            meaning: "1 to 184 bytes: the pattern, two hexadecimal digits a byte",
+            need: Need::Required,
+            beside: Beside::Any,
+        },
+    },
+    OptionRow {
+        word: OptionWord::Value("pid", Takes::Ranges(LAST_PID)),
+        text: OptionText {
+            value: "LIST",
+            meaning: "0 to 8191: only packets on these PIDs; without it, on all",
+            need: Need::Free,
+            beside: Beside::Any,
+        },
+    },
+    OptionRow {
+        word: OptionWord::Value("offset-pusi", Takes::Number(0, LAST_OFFSET)),
+        text: OptionText {
+            value: "N",
+            meaning: "0 to 183, default 0: the byte of the payload at which the pattern begins, in packets with the payload unit start indicator",
+            need: Need::Free,
+            beside: Beside::Any,
+        },
+    },
+    OptionRow {
+        word: OptionWord::Value("offset-non-pusi", Takes::Number(0, LAST_OFFSET)),
+        text: OptionText {
+            value: "N",
+            meaning: "0 to 183, default 0: the same for the other packets",
+            need: Need::Free,
+            beside: Beside::Any,
+        },
+    },
+    OptionRow {
+        word: OptionWord::Flag("negate"),
+        text: OptionText {
+            value: "",
+            meaning: "with --pid: only packets on the other PIDs",
+            need: Need::Free,
+            beside: Beside::With("pid"),
+        },
+    },
 ];
 
-/// The command of `pattern`, which has its options.
-pub fn pattern_command<'a>(alloc: Global) -> Result<Command<'a>, AllocError>
-    ensures { IfOk result (λ c. app_of c ≡ command_of pattern_rows) }
-{
-    command_with(alloc, &PATTERN)
-}
-
-/// Reads the settings of `pattern` from what its command found in the words.
-pub fn pattern_settings(alloc: Global, found: &ParsedOptions) -> Result<PatternConf, Refusal>
+// Reads the settings of `pattern` from what its command found in the words.
+fn pattern_settings(alloc: Global, found: &ParsedOptions) -> Result<PatternConf, Refusal>
     ensures reads { ReadsParsed pattern found.now result }
     ensures lawful { IfOk result IsLawfulPattern }
 {
@@ -49,4 +82,40 @@ pub fn pattern_settings(alloc: Global, found: &ParsedOptions) -> Result<PatternC
         offset_pusi,
         offset_non_pusi,
     })
+}
+
+impl PluginSettings for PatternConf {
+    ghost use Rattle.std.specs.Prelude.{refl};
+    ghost use Rattle.plug_pass.specs.PatternEntry.{pattern_entry};
+
+    ghost entry = { pattern_entry };
+
+    fn name() -> &'static str {
+        "pattern"
+    }
+
+    fn options() -> &'static [OptionRow<'static>] {
+        &PATTERN
+    }
+
+    fn help() -> PluginHelp {
+        PluginHelp {
+            usage: "-P pattern HEX [--pid LIST] [--negate] [--offset-pusi N] [--offset-non-pusi N]",
+            rule: "The pattern is written again and again, from the byte of its offset to the end of the packet. A packet without a payload, or with a shorter one, stays as it is.",
+        }
+    }
+
+    fn read(alloc: Global, found: &ParsedOptions) -> Result<PatternConf, Refusal> {
+        pattern_settings(alloc, found)
+    }
+
+    fn table_file(&self) -> Option<&str> {
+        None
+    }
+
+    fn uses_joint_termination(&self) -> bool {
+        false
+    }
+
+    ghost simple = { refl };
 }

@@ -1,30 +1,31 @@
 //! The options of `skip`, and its settings from their values.
 
 ghost use Rattle.std.specs.Prelude.{◌≡◌, IfOk};
-ghost use Rattle.clap.specs.Simple.{app_of};
 ghost use Rattle.plug_pass.specs.SkipSettings.{IsLawfulSkip};
-ghost use Rattle.plug_pass.specs.SkipWords.{skip, skip_rows};
-ghost use Rattle.option_words.specs.Options.{command_of};
+ghost use Rattle.plug_pass.specs.SkipWords.{skip};
 ghost use Rattle.option_words.specs.Refusal.{ReadsParsed};
 
 use crate::skip_conf::SkipConf;
-use clap::Command;
-use option_words::{OptionWord, ParsedOptions, Refusal, WordsRule, command_with};
+use option_words::{
+    Beside, Need, OptionRow, OptionText, OptionWord, ParsedOptions, Refusal, Takes, WordsRule,
+};
 use plug_conf::MOST_PACKETS;
-use std::alloc::{AllocError, Global};
+use plugin_entry::{PluginHelp, PluginSettings};
+use std::alloc::Global;
 
 // The options of `skip`.
-static SKIP: [OptionWord; 1] = [OptionWord::Operand("operand")];
+static SKIP: [OptionRow; 1] = [OptionRow {
+    word: OptionWord::Operand("operand", Takes::Number(0, MOST_PACKETS)),
+    text: OptionText {
+        value: "N",
+        meaning: "0 to 2^40: how many packets are dropped",
+        need: Need::Required,
+        beside: Beside::Any,
+    },
+}];
 
-/// The command of `skip`, which has its options.
-pub fn skip_command<'a>(alloc: Global) -> Result<Command<'a>, AllocError>
-    ensures { IfOk result (λ c. app_of c ≡ command_of skip_rows) }
-{
-    command_with(alloc, &SKIP)
-}
-
-/// Reads the settings of `skip` from what its command found in the words.
-pub fn skip_settings(found: &ParsedOptions) -> Result<SkipConf, Refusal>
+// Reads the settings of `skip` from what its command found in the words.
+fn skip_settings(found: &ParsedOptions) -> Result<SkipConf, Refusal>
     ensures reads { ReadsParsed skip found.now result }
     ensures lawful { IfOk result IsLawfulSkip }
 {
@@ -33,4 +34,40 @@ pub fn skip_settings(found: &ParsedOptions) -> Result<SkipConf, Refusal>
     }
     let operand = found.number_or("operand", 0, MOST_PACKETS, 0)?;
     Ok(SkipConf { operand })
+}
+
+impl PluginSettings for SkipConf {
+    ghost use Rattle.std.specs.Prelude.{refl};
+    ghost use Rattle.plug_pass.specs.SkipEntry.{skip_entry};
+
+    ghost entry = { skip_entry };
+
+    fn name() -> &'static str {
+        "skip"
+    }
+
+    fn options() -> &'static [OptionRow<'static>] {
+        &SKIP
+    }
+
+    fn help() -> PluginHelp {
+        PluginHelp {
+            usage: "-P skip N",
+            rule: "The first N packets that come to the plugin are dropped. All others pass.",
+        }
+    }
+
+    fn read(_alloc: Global, found: &ParsedOptions) -> Result<SkipConf, Refusal> {
+        skip_settings(found)
+    }
+
+    fn table_file(&self) -> Option<&str> {
+        None
+    }
+
+    fn uses_joint_termination(&self) -> bool {
+        false
+    }
+
+    ghost simple = { refl };
 }

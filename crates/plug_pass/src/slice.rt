@@ -2,16 +2,17 @@
 
 ghost use Rattle.std.specs.Prelude.{◌≡◌, IfOk, [], Some};
 ghost use Rattle.plug_pass.specs.SliceRule.{slice_rule, is_between};
+ghost use Rattle.plug_pass.specs.SliceSettings.{IsLawfulSlice};
 
 use crate::slice_conf::SliceConf;
-use plugin_trait::{Line, Outcome, Plugin, silent_report};
+use plugin_trait::{Outcome, Plugin, Silent, Steps};
 use std::alloc::{AllocError, Global};
-use ts_packet::{Cell, Packet};
+use ts_packet::{Labels, Packet};
 
 /// Drops, passes or overwrites packets by their index, or stops: the option with the greatest number that is at most
 /// the number of packets met before decides.
 #[derive(Drop)]
-pub struct Slice {
+pub struct SliceSteps {
     drop: Option<u64>,
     null: Option<u64>,
     pass: Option<u64>,
@@ -19,32 +20,33 @@ pub struct Slice {
     /// How many packets were met.
     met: u64,
     buffer: usize,
-    alloc: Global,
 }
 
-impl Slice {
-    ghost use Rattle.std.specs.Prelude.{◌≡◌, [], Some, IfOk};
-    ghost use Rattle.plug_pass.specs.SliceSettings.{IsLawfulSlice};
-    ghost use Rattle.plug_pass.specs.SliceRule.{slice_rule, decides, is_overtaken};
-    ghost use Rattle.plug_pass.specs.SliceState.{conf_of};
+/// The plugin `slice`.
+pub type Slice = Silent<SliceSteps>;
 
-    /// A plugin that met no cell yet. It allocates nothing, here and in its steps.
-    pub fn new(alloc: Global, conf: &SliceConf, buffer: usize) -> Result<Slice, AllocError>
-        requires { IsLawfulSlice conf.now }
-        ensures rule { IfOk result (λ plugin. ⟦<Slice as Plugin>⟧.rule plugin ≡ slice_rule conf.now) }
-        ensures fresh { IfOk result (λ plugin. ⟦<Slice as Plugin>⟧.stands_for plugin [] 0) }
-        ensures steady { IfOk result (λ plugin. ⟦<Slice as Plugin>⟧.steady plugin ≡ Some buffer) }
-    {
-        Ok(Slice {
-            drop: conf.drop,
-            null: conf.null,
-            pass: conf.pass,
-            stop: conf.stop,
-            met: 0,
-            buffer,
-            alloc,
-        })
-    }
+/// A plugin that met no cell yet. It allocates nothing, here and in its steps.
+pub fn new_slice(_alloc: Global, conf: &SliceConf, buffer: usize) -> Result<Slice, AllocError>
+    requires { IsLawfulSlice conf.now }
+    ensures rule { IfOk result (λ plugin. ⟦<Slice as Plugin>⟧.rule plugin ≡ slice_rule conf.now) }
+    ensures fresh { IfOk result (λ plugin. ⟦<Slice as Plugin>⟧.stands_for plugin [] 0) }
+    ensures steady { IfOk result (λ plugin. ⟦<Slice as Plugin>⟧.steady plugin ≡ Some buffer) }
+{
+    let steps = SliceSteps {
+        drop: conf.drop,
+        null: conf.null,
+        pass: conf.pass,
+        stop: conf.stop,
+        met: 0,
+        buffer,
+    };
+    Ok(Silent { steps })
+}
+
+impl SliceSteps {
+    ghost use Rattle.std.specs.Prelude.{◌≡◌};
+    ghost use Rattle.plug_pass.specs.SliceRule.{decides, is_overtaken};
+    ghost use Rattle.plug_pass.specs.SliceState.{conf_of};
 
     // Whether the option of this number decides about the next packet.
     fn decides(&self, from: Option<u64>) -> bool
@@ -77,34 +79,28 @@ fn is_between(from: u64, index: u64, other: Option<u64>) -> bool
     }
 }
 
-impl Plugin for Slice {
-    ghost use Rattle.std.specs.Prelude.{◌≡◌, ◌≤◌, length, Some, refl, true};
+impl Steps for SliceSteps {
+    ghost use Rattle.std.specs.Prelude.{◌≡◌, ◌≤◌, length, Some, refl};
     ghost use Rattle.plugin_trait.specs.LiveCount.{live_count};
     ghost use Rattle.plug_pass.specs.SliceRule.{slice_rule};
     ghost use Rattle.plug_pass.specs.SliceState.{conf_of};
 
     ghost rule = { λ s. slice_rule (conf_of s) };
 
-    ghost stands_for = { λ s history mark. (s.met ≡ live_count history) × (s.met ≤ length history) × (mark ≤ length history) };
+    ghost stands_for = { λ s history. (s.met ≡ live_count history) × (s.met ≤ length history) };
 
     ghost steady = { λ s. Some s.buffer };
 
-    ghost silent = { λ _. true };
-
     // Inlined: otherwise the loop of `steps` has a call for each cell.
     #[inline(always)]
-    fn step(&mut self, _at: u64, cell: &mut Cell) -> Outcome {
-        let Some(live) = cell.live_mut() else {
-            return Outcome::Pass;
-        };
+    fn step(&mut self, _at: u64, packet: &mut Packet, _labels: &mut Labels) -> Outcome {
         if self.decides(self.drop) {
             self.met += 1;
-            cell.drop_packet();
             return Outcome::Drop;
         }
         if self.decides(self.null) {
             self.met += 1;
-            live.packet = Packet::null();
+            *packet = Packet::null();
             return Outcome::Pass;
         }
         if self.decides(self.stop) {
@@ -114,17 +110,13 @@ impl Plugin for Slice {
         Outcome::Pass
     }
 
-    fn note(&mut self, _written: u64) -> Result<(), AllocError> {
-        Ok(())
-    }
+    fn pass_over(&mut self, _at: u64) {}
 
-    fn agreed(&self) -> bool {
+    fn has_fault(&self, _cut: u64) -> bool {
         false
     }
 
-    fn finish(&mut self, _cut: u64) -> Result<Vec<Line>, AllocError> {
-        Ok(silent_report(self.alloc))
-    }
+    ghost quiet = { λ plugin. record { no_lines = λ history packet labels. refl; no_summary = λ history. refl } };
 
-    ghost starts_open = { λ plugin history mark stands. refl };
+    ghost never_agrees = { λ plugin history. refl };
 }

@@ -1,35 +1,60 @@
 //! The options of `slice`, and its settings from their values.
 
 ghost use Rattle.std.specs.Prelude.{◌≡◌, IfOk};
-ghost use Rattle.clap.specs.Simple.{app_of};
 ghost use Rattle.plug_pass.specs.SliceSettings.{IsLawfulSlice};
-ghost use Rattle.plug_pass.specs.SliceWords.{slice, slice_rows};
-ghost use Rattle.option_words.specs.Options.{command_of};
+ghost use Rattle.plug_pass.specs.SliceWords.{slice};
 ghost use Rattle.option_words.specs.Refusal.{ReadsParsed};
 
 use crate::slice_conf::SliceConf;
-use clap::Command;
-use option_words::{OptionWord, ParsedOptions, Refusal, WordsRule, command_with};
+use option_words::{
+    Beside, Need, OptionRow, OptionText, OptionWord, ParsedOptions, Refusal, Takes, WordsRule,
+};
 use plug_conf::MOST_NUMBER;
-use std::alloc::{AllocError, Global};
+use plugin_entry::{PluginHelp, PluginSettings};
+use std::alloc::Global;
 
 // The options of `slice`.
-static SLICE: [OptionWord; 4] = [
-    OptionWord::Value("drop"),
-    OptionWord::Value("null"),
-    OptionWord::Value("pass"),
-    OptionWord::Value("stop"),
+static SLICE: [OptionRow; 4] = [
+    OptionRow {
+        word: OptionWord::Value("drop", Takes::Number(0, MOST_NUMBER)),
+        text: OptionText {
+            value: "N",
+            meaning: "0 to 2^60: from packet N on drop packets",
+            need: Need::OneOf,
+            beside: Beside::Any,
+        },
+    },
+    OptionRow {
+        word: OptionWord::Value("null", Takes::Number(0, MOST_NUMBER)),
+        text: OptionText {
+            value: "N",
+            meaning: "0 to 2^60: from packet N on put null packets in their place",
+            need: Need::OneOf,
+            beside: Beside::Any,
+        },
+    },
+    OptionRow {
+        word: OptionWord::Value("pass", Takes::Number(0, MOST_NUMBER)),
+        text: OptionText {
+            value: "N",
+            meaning: "0 to 2^60: from packet N on pass packets",
+            need: Need::OneOf,
+            beside: Beside::Any,
+        },
+    },
+    OptionRow {
+        word: OptionWord::Value("stop", Takes::Number(0, MOST_NUMBER)),
+        text: OptionText {
+            value: "N",
+            meaning: "0 to 2^60: end the run before packet N",
+            need: Need::OneOf,
+            beside: Beside::Any,
+        },
+    },
 ];
 
-/// The command of `slice`, which has its options.
-pub fn slice_command<'a>(alloc: Global) -> Result<Command<'a>, AllocError>
-    ensures { IfOk result (λ c. app_of c ≡ command_of slice_rows) }
-{
-    command_with(alloc, &SLICE)
-}
-
-/// Reads the settings of `slice` from what its command found in the words.
-pub fn slice_settings(found: &ParsedOptions) -> Result<SliceConf, Refusal>
+// Reads the settings of `slice` from what its command found in the words.
+fn slice_settings(found: &ParsedOptions) -> Result<SliceConf, Refusal>
     ensures reads { ReadsParsed slice found.now result }
     ensures lawful { IfOk result IsLawfulSlice }
 {
@@ -54,4 +79,40 @@ pub fn slice_settings(found: &ParsedOptions) -> Result<SliceConf, Refusal>
         return Err(Refusal::Broken(WordsRule::Conflict));
     }
     Ok(conf)
+}
+
+impl PluginSettings for SliceConf {
+    ghost use Rattle.std.specs.Prelude.{refl};
+    ghost use Rattle.plug_pass.specs.SliceEntry.{slice_entry};
+
+    ghost entry = { slice_entry };
+
+    fn name() -> &'static str {
+        "slice"
+    }
+
+    fn options() -> &'static [OptionRow<'static>] {
+        &SLICE
+    }
+
+    fn help() -> PluginHelp {
+        PluginHelp {
+            usage: "-P slice [--drop N] [--null N] [--pass N] [--stop N]",
+            rule: "Packets that come to the plugin are counted from 0, and the option with the greatest N that is not above a packet's number decides about it; before the least N packets pass. At least one option has to be given, and no two numbers may be equal.",
+        }
+    }
+
+    fn read(_alloc: Global, found: &ParsedOptions) -> Result<SliceConf, Refusal> {
+        slice_settings(found)
+    }
+
+    fn table_file(&self) -> Option<&str> {
+        None
+    }
+
+    fn uses_joint_termination(&self) -> bool {
+        false
+    }
+
+    ghost simple = { refl };
 }

@@ -8,3 +8,4 @@ pub mod PcrverifyRule
 pub mod PcrverifySettings
 pub mod PcrverifyState
 pub mod PcrverifyWords
+pub mod PcrverifyEntry

@@ -11,4 +11,4 @@ conf_of s = record { bitrate = s.bitrate; jitter_max = s.jitter_max; pid = s.pid
 
 -- its parts stand for the cells that were processed, and for the greatest mark
 abbrev pub StandsFor : Pcrverify → List Cell → ℕ → Type 0
-StandsFor s history mark = Verifies (conf_of s) s.last s.noted.met.items s.noted.faults.items s.count s.lines.items history mark
+StandsFor s history mark = Verifies (conf_of s) s.last s.noted.met.items s.noted.faults.items s.clock_count s.fault_count history mark

@@ -1,5 +1,5 @@
 -- The rule of `pcrverify`. This project's own rule, over the program_clock_reference of ISO/IEC 13818-1, 2.4.3.5.
-use Rattle.std.specs.Prelude.{ℕ, List, [], ◌∷◌, ◌++◌, length, filter, map, false, codes}
+use Rattle.std.specs.Prelude.{ℕ, nat_lt, List, [], ◌∷◌, ◌++◌, length, filter, map, false, codes}
 use Rattle.std.specs.Fmt.{decimal}
 use Rattle.ts_packet.specs.declared.cell.Cell.{Cell}
 use Rattle.ts_packet.specs.Cells.{live_packets}
@@ -23,4 +23,5 @@ pcrverify_rule conf = record {
   lines_of = λ history packet _. map text_of_fault (fault_on conf history packet);
   summary_of = λ history. summary_text (length (clocked conf history)) (length (faults_in conf history)) ∷ [];
   agrees = λ _. false;
+  has_fault = λ history. nat_lt 0 (length (faults_in conf history));
 }

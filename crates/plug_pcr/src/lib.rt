@@ -21,4 +21,3 @@ pub use clock_note::ClockNote;
 pub use limits::{CLOCK_PERIOD, DEFAULT_JITTER, MOST_BITRATE, MOST_JITTER, PACKET_UNITS};
 pub use pcrverify::Pcrverify;
 pub use pcrverify_conf::PcrverifyConf;
-pub use pcrverify_words::{pcrverify_command, pcrverify_settings};

@@ -57,15 +57,16 @@ impl NotedClocks {
         push_lines_below(lines, &self.faults, mark)
     }
 
-    /// Removes the notes below a position, and returns how many packets with a PCR they were.
-    pub fn drop_below(&mut self, mark: u64) -> u64
+    /// Removes the notes below a position, and returns how many packets with a PCR they were, and how many faults.
+    pub fn drop_below(&mut self, mark: u64) -> (u64, u64)
         ensures met { TakesBelow place_of_note mark self.old.met.items self.new.met.items }
         ensures faults { TakesBelow place_of_fault mark self.old.faults.items self.new.faults.items }
-        ensures count { result + length self.new.met.items ≡ length self.old.met.items }
+        ensures met_count { result.0 + length self.new.met.items ≡ length self.old.met.items }
+        ensures fault_count { result.1 + length self.new.faults.items ≡ length self.old.faults.items }
     {
-        let before = self.met.len();
-        drop_below(&mut self.met, mark);
-        drop_below(&mut self.faults, mark);
-        (before - self.met.len()) as u64
+        (
+            drop_below(&mut self.met, mark),
+            drop_below(&mut self.faults, mark),
+        )
     }
 }

@@ -11,8 +11,7 @@ use plug_conf::PidSet;
 use plugin_notes::push_line;
 use plugin_trait::{Line, LineText, Outcome, Plugin};
 use std::alloc::{AllocError, Global};
-use std::mem;
-use ts_packet::{Cell, Packet};
+use ts_packet::{Labels, Packet};
 
 /// Reports packets whose PCR is too far from the one expected at a constant bit rate.
 #[derive(Drop)]
@@ -24,10 +23,9 @@ pub struct Pcrverify {
     /// The packets with a PCR from the greatest mark on, and the faults among them.
     noted: NotedClocks,
     /// How many packets with a PCR stand below the mark.
-    count: u64,
-    /// The lines of the faults below the mark.
-    lines: Vec<Line>,
-    alloc: Global,
+    clock_count: u64,
+    /// How many of them are faults.
+    fault_count: u64,
 }
 
 impl Pcrverify {
@@ -38,14 +36,13 @@ impl Pcrverify {
     ghost use Rattle.ts_packet.specs.Pcr.{pcr_of};
     ghost use Rattle.plug_conf.specs.Selection.{is_selected};
     ghost use Rattle.chain_model.specs.declared.positions.TheConstants.{POSITION_LIMIT};
-    ghost use Rattle.plugin_trait.specs.Marks.{AllowsMark, Notes};
     ghost use Rattle.plugin_trait.specs.Steps.{MeetsCells};
     ghost use Rattle.plug_pcr.specs.PcrverifySettings.{IsLawfulPcrverify};
     ghost use Rattle.plug_pcr.specs.PcrverifyRule.{pcrverify_rule};
     ghost use Rattle.plug_pcr.specs.PcrverifyConfOf.{StandsFor, conf_of};
 
     /// A new plugin, which has processed no cell. It allocates its tables, and room for notes on as many packets as
-    /// the buffer holds; the lines of its faults grow with the stream.
+    /// the buffer holds.
     pub fn new(alloc: Global, conf: &PcrverifyConf, buffer: usize) -> Result<Pcrverify, AllocError>
         requires { IsLawfulPcrverify conf.now }
         ensures rule { IfOk result (λ plugin. ⟦<Pcrverify as Plugin>⟧.rule plugin ≡ pcrverify_rule conf.now) }
@@ -58,9 +55,8 @@ impl Pcrverify {
             pids: PidSet::of(alloc, &conf.pid)?,
             last: LastClocks::new(alloc)?,
             noted: NotedClocks::new(alloc, buffer)?,
-            count: 0,
-            lines: Vec::new(alloc),
-            alloc,
+            clock_count: 0,
+            fault_count: 0,
         })
     }
 
@@ -74,7 +70,7 @@ impl Pcrverify {
         ensures same { conf_of self.new ≡ conf_of self.old }
         ensures err { OnErr result ((self.new.last ≡ self.old.last) × (self.new.noted.met.items ≡ self.old.noted.met.items)
             × (self.new.noted.faults.items ≡ self.old.noted.faults.items)
-            × (self.new.count ≡ self.old.count) × (self.new.lines.items ≡ self.old.lines.items)) }
+            × (self.new.clock_count ≡ self.old.clock_count) × (self.new.fault_count ≡ self.old.fault_count)) }
     {
         if !self.pids.selects(false, packet.pid()) {
             return Ok(());
@@ -96,25 +92,13 @@ impl Pcrverify {
         ensures same { conf_of self.new ≡ conf_of self.old }
         ensures err { OnErr result ((self.new.last ≡ self.old.last) × (self.new.noted.met.items ≡ self.old.noted.met.items)
             × (self.new.noted.faults.items ≡ self.old.noted.faults.items)
-            × (self.new.count ≡ self.old.count) × (self.new.lines.items ≡ self.old.lines.items)) }
+            × (self.new.clock_count ≡ self.old.clock_count) × (self.new.fault_count ≡ self.old.fault_count)) }
     {
         let pid = packet.pid();
         let last = self.last.on(pid);
         let fault = fault_behind(self.bitrate, self.jitter_max, at, last, packet, clock);
         self.noted.push(ClockNote { at }, fault)?;
         self.last.keep(pid, LastClock { at, clock });
-        Ok(())
-    }
-
-    // Removes the notes below a position, counts them, and appends the lines of their faults. Out of memory nothing
-    // is changed.
-    fn fold(&mut self, mark: u64) -> Result<(), AllocError>
-        requires { AllowsMark (StandsFor self.old) mark }
-        ensures notes { Notes (StandsFor self.old) (StandsFor self.new) mark result }
-        ensures same { conf_of self.new ≡ conf_of self.old }
-    {
-        self.noted.push_lines_below(&mut self.lines, mark)?;
-        self.count += self.noted.drop_below(mark);
         Ok(())
     }
 }
@@ -132,30 +116,37 @@ impl Plugin for Pcrverify {
 
     // Inlined always: otherwise the loop of `steps` has a call for each cell.
     #[inline(always)]
-    fn step(&mut self, at: u64, cell: &mut Cell) -> Outcome {
-        let Some(live) = cell.live() else {
-            return Outcome::Pass;
-        };
-        match self.look(at, &live.packet) {
+    fn step(&mut self, at: u64, packet: &mut Packet, _labels: &mut Labels) -> Outcome {
+        match self.look(at, packet) {
             Ok(()) => Outcome::Pass,
             Err(_) => Outcome::NoMemory,
         }
     }
 
-    fn note(&mut self, written: u64) -> Result<(), AllocError> {
-        self.fold(written)
+    fn pass_over(&mut self, _at: u64) {}
+
+    fn note(&mut self, written: u64, lines: &mut Vec<Line>) -> Result<(), AllocError> {
+        self.noted.push_lines_below(lines, written)?;
+        let (clocks, faults) = self.noted.drop_below(written);
+        self.clock_count += clocks;
+        self.fault_count += faults;
+        Ok(())
+    }
+
+    fn summary(&self, at: u64, lines: &mut Vec<Line>) -> Result<(), AllocError> {
+        let text = format!(in *lines.allocator();
+            "pcr {} faults {}",
+            self.clock_count, self.fault_count
+        )?;
+        push_line(lines, at, LineText::of(text))
     }
 
     fn agreed(&self) -> bool {
         false
     }
 
-    fn finish(&mut self, cut: u64) -> Result<Vec<Line>, AllocError> {
-        self.fold(cut)?;
-        let mut lines = mem::replace(&mut self.lines, Vec::new(self.alloc));
-        let text = format!(in self.alloc; "pcr {} faults {}", self.count, lines.len())?;
-        push_line(&mut lines, cut, LineText::of(text))?;
-        Ok(lines)
+    fn has_fault(&self, _cut: u64) -> bool {
+        self.fault_count > 0
     }
 
     ghost starts_open = { λ plugin history mark stands. refl };

@@ -1,4 +1,3 @@
-pub mod MetLemmas
 pub mod FateLemmas
 pub mod EditLemmas
 pub mod PartLemmas

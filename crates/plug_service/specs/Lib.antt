@@ -9,3 +9,5 @@ pub mod EditorsState
 pub mod ServiceState
 pub mod ServiceSettings
 pub mod ServiceWords
+pub mod SvremoveEntry
+pub mod ZapEntry

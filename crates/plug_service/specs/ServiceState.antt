@@ -6,17 +6,17 @@ use Rattle.plug_service.specs.FatesState.{FollowsService}
 use Rattle.plug_service.specs.EditorsState.{EditorsStand}
 use Rattle.plug_service.specs.ServiceRule.{service_rule}
 use Rattle.plug_service.specs.declared.way.Way.{Way}
-use Rattle.plug_service.specs.declared.one_service.OneService.{OneService}
+use Rattle.plug_service.specs.declared.service_steps.ServiceSteps.{ServiceSteps}
 
 -- tables in force, fates and editors are those of the packets
-pub record Served (way : Way) (service : ℕ) (plugin : OneService) (met : List (List ℕ)) : Type 0 where
+pub record Served (way : Way) (service : ℕ) (plugin : ServiceSteps) (met : List (List ℕ)) : Type 0 where
   pub followed : FollowsService way service plugin.follower met
   pub edited : EditorsStand way service plugin.editors met
 
 -- the plugin stands for the packets, unless memory ran out
-abbrev pub StandsFor : OneService → List (List ℕ) → Type 0
+abbrev pub StandsFor : ServiceSteps → List (List ℕ) → Type 0
 StandsFor plugin met = plugin.failed ≡ false → Served plugin.way plugin.service plugin met
 
 -- the rule of the plugin
-abbrev pub rule_of : OneService → PluginRule
+abbrev pub rule_of : ServiceSteps → PluginRule
 rule_of plugin = service_rule plugin.way plugin.service plugin.stuffing

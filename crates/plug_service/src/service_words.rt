@@ -1,33 +1,20 @@
 //! The options of `zap` and `svremove`, which have the same ones, and their settings from the values.
 
 ghost use Rattle.std.specs.Prelude.{◌≡◌, ◌≤◌, IfOk, MatchResult, codes, false, true};
-ghost use Rattle.clap.specs.Simple.{app_of};
 ghost use Rattle.option_words.specs.Forms.{number};
-ghost use Rattle.option_words.specs.Options.{command_of, is_formed};
+ghost use Rattle.option_words.specs.Options.{is_formed};
 ghost use Rattle.option_words.specs.Refusal.{IsRefusedBy, ReadsParsed};
 ghost use Rattle.option_words.specs.declared.words_rule.WordsRule.TheVariants.{Value};
 ghost use Rattle.plug_service.specs.ServiceSettings.{IsLawfulService};
-ghost use Rattle.plug_service.specs.ServiceWords.{service_found, service_options, service_rows};
+ghost use Rattle.plug_service.specs.ServiceWords.{service_found, service_options};
 ghost use Rattle.plug_service.specs.declared.limits.TheConstants.{LAST_SERVICE};
 
 use crate::limits::LAST_SERVICE;
 use crate::service_conf::ServiceConf;
-use clap::Command;
-use option_words::{OptionWord, ParsedOptions, Refusal, WordsRule, command_with};
-use std::alloc::{AllocError, Global};
-
-// The options of both plugins.
-static SERVICE: [OptionWord; 2] = [OptionWord::Operand("operand"), OptionWord::Flag("stuffing")];
-
-/// The command that has the options of both plugins.
-pub fn service_command<'a>(alloc: Global) -> Result<Command<'a>, AllocError>
-    ensures { IfOk result (λ c. app_of c ≡ command_of service_rows) }
-{
-    command_with(alloc, &SERVICE)
-}
+use option_words::{ParsedOptions, Refusal, WordsRule};
 
 /// Reads the settings of either plugin from what its command found in the words.
-pub fn service_settings(found: &ParsedOptions) -> Result<ServiceConf, Refusal>
+pub(crate) fn service_settings(found: &ParsedOptions) -> Result<ServiceConf, Refusal>
     ensures reads { ReadsParsed service_options found.now result }
     ensures lawful { IfOk result IsLawfulService }
 {

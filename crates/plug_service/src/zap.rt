@@ -2,14 +2,13 @@
 
 ghost use Rattle.std.specs.Prelude.{◌≡◌, [], None, IfOk};
 ghost use Rattle.plug_service.specs.ServiceRule.{zap_rule};
+ghost use Rattle.plug_service.specs.ServiceSettings.{IsLawfulService};
 
-use crate::one_service::OneService;
 use crate::service_conf::ServiceConf;
+use crate::service_steps::ServiceSteps;
 use crate::way::Way;
-use plug_psi::{Changes, Unedited};
-use plugin_trait::{Line, Outcome, Plugin, silent_report};
+use plugin_trait::{Plugin, Silent};
 use std::alloc::{AllocError, Global};
-use ts_packet::Cell;
 
 /// Keeps one service of a transport stream, and removes all others.
 ///
@@ -17,66 +16,17 @@ use ts_packet::Cell;
 /// transport stream with only this service, and no other table. The PID of the service's first entry carries its current
 /// PMT, and no other table. Packets on the PIDs of its PMT in force pass: those of components, the PCR_PID and the CA_PIDs.
 /// All other packets are dropped, or become null packets.
-#[derive(Drop)]
-pub struct Zap {
-    inner: OneService,
-}
+pub type Zap = Silent<ServiceSteps>;
 
-impl Zap {
-    ghost use Rattle.plug_service.specs.ServiceSettings.{IsLawfulService};
-
-    /// A new plugin, which has processed no cell. Its steps allocate memory. If a step on a live cell runs out of memory,
-    /// every later one does too.
-    pub fn new(alloc: Global, conf: &ServiceConf, _buffer: usize) -> Result<Zap, AllocError>
-        requires { IsLawfulService conf.now }
-        ensures rule { IfOk result (λ plugin. ⟦<Zap as Plugin>⟧.rule plugin ≡ zap_rule conf.now) }
-        ensures fresh { IfOk result (λ plugin. ⟦<Zap as Plugin>⟧.stands_for plugin [] 0) }
-        ensures steady { IfOk result (λ plugin. ⟦<Zap as Plugin>⟧.steady plugin ≡ None) }
-    {
-        Ok(Zap {
-            inner: OneService::new(alloc, Way::Keep, conf.service as u16, conf.stuffing)?,
-        })
-    }
-
-    /// Why nothing was edited: by the tables in force the service is not there.
-    pub fn unedited(&self) -> Option<Unedited> {
-        self.inner.unedited()
-    }
-
-    /// Adds the PIDs on which tables changed without a new version.
-    pub fn add_changes(&self, changes: &mut Changes) -> Result<(), AllocError> {
-        self.inner.add_changes(changes)
-    }
-}
-
-impl Plugin for Zap {
-    ghost use Rattle.std.specs.Prelude.{◌≤◌, length, None, refl, true};
-    ghost use Rattle.ts_packet.specs.Cells.{live_packets};
-    ghost use Rattle.plug_service.specs.ServiceState.{StandsFor, rule_of};
-
-    ghost rule = { λ s. rule_of s.inner };
-
-    ghost stands_for = { λ s history mark. StandsFor s.inner (live_packets history) × (mark ≤ length history) };
-
-    ghost steady = { λ s. None };
-
-    ghost silent = { λ _. true };
-
-    fn step(&mut self, at: u64, cell: &mut Cell) -> Outcome {
-        self.inner.step(at, cell)
-    }
-
-    fn note(&mut self, _written: u64) -> Result<(), AllocError> {
-        Ok(())
-    }
-
-    fn agreed(&self) -> bool {
-        false
-    }
-
-    fn finish(&mut self, _cut: u64) -> Result<Vec<Line>, AllocError> {
-        Ok(silent_report(self.inner.alloc))
-    }
-
-    ghost starts_open = { λ plugin history mark stands. refl };
+/// A new `zap`, which has processed no packet. Its steps allocate memory. If a step runs out of memory, every later one does
+/// too.
+pub fn new_zap(alloc: Global, conf: &ServiceConf, _buffer: usize) -> Result<Zap, AllocError>
+    requires { IsLawfulService conf.now }
+    ensures rule { IfOk result (λ plugin. ⟦<Zap as Plugin>⟧.rule plugin ≡ zap_rule conf.now) }
+    ensures fresh { IfOk result (λ plugin. ⟦<Zap as Plugin>⟧.stands_for plugin [] 0) }
+    ensures steady { IfOk result (λ plugin. ⟦<Zap as Plugin>⟧.steady plugin ≡ None) }
+{
+    Ok(Silent {
+        steps: ServiceSteps::new(alloc, Way::Keep, conf.service as u16, conf.stuffing)?,
+    })
 }

@@ -1,4 +1,5 @@
 pub mod ArmLemmas
 pub mod ItemLemmas
 pub mod ShownLemmas
+pub mod SilentRules
 pub mod ListLemmas

@@ -1,6 +1,5 @@
 -- The plugins that the lists `uses_joint`, `table_file_of` and `is_silent` do not name.
 use Rattle.std.proofs.Common.{◌≡◌, ℕ, List, [], Bool, true, false, ◌&&◌, if◌then◌else◌, Option, None, Some, refl, ap}
-use Rattle.std.proofs.lemmas.Bool.{both_ways}
 use Rattle.std.specs.Prelude.{option_map}
 use Rattle.ts_packet.specs.declared.cell.Cell.{Cell}
 use Rattle.ts_packet.specs.Labels.{shares_label}
@@ -11,10 +10,11 @@ use Rattle.plug_conf.specs.LabelSet.{label_set}
 use Rattle.plug_end.specs.UntilRule.{is_reached}
 use Rattle.plug_set.specs.Items.{rule_of_item}
 use Rattle.plug_set.specs.OnlyLabels.{rule_for}
+use Rattle.plug_set.proofs.SilentRules.{silent_rule_of}
 use Rattle.plug_set.specs.declared.plugin_item.PluginItem.{PluginItem}
 use Rattle.plug_set.specs.Plugins.{is_silent, rule_of, table_file_of, uses_joint}
 use Rattle.plug_set.specs.declared.plugin_conf.PluginConf.{PluginConf}
-use Rattle.plug_set.specs.declared.plugin_conf.PluginConf.TheVariants.{Analyze, Continuity, Count, Info, Inject, Pcrverify, Tables, Until}
+use Rattle.plug_set.specs.declared.plugin_conf.PluginConf.TheVariants.{Inject, Until}
 
 pub never_agrees : (conf : PluginConf) (sections : List (List ℕ)) (history : List Cell) → uses_joint conf ≡ false → (rule_of conf sections).agrees history ≡ false
 never_agrees (Until conf) sections history alone = ap (λ (joint : Bool). joint && is_reached conf history) alone
@@ -23,15 +23,6 @@ never_agrees _ sections history alone = refl
 pub same_rule : (conf : PluginConf) (one other : List (List ℕ)) → table_file_of conf ≡ None → rule_of conf one ≡ rule_of conf other
 same_rule (Inject conf) one other none = cc
 same_rule _ one other none = refl
-
-silent_rule_of : (conf : PluginConf) (sections : List (List ℕ)) → is_silent conf ≡ true → IsSilent (rule_of conf sections)
-silent_rule_of (Count conf) sections silent = absurd (both_ways false refl silent)
-silent_rule_of (Continuity conf) sections silent = absurd (both_ways false refl silent)
-silent_rule_of (Analyze conf) sections silent = absurd (both_ways false refl silent)
-silent_rule_of (Info conf) sections silent = absurd (both_ways false refl silent)
-silent_rule_of (Tables conf) sections silent = absurd (both_ways false refl silent)
-silent_rule_of (Pcrverify conf) sections silent = absurd (both_ways false refl silent)
-silent_rule_of _ sections silent = record { no_lines = λ history packet labels. refl; no_summary = λ history. refl }
 
 -- a choice of two things that are one
 both_are : {X : Type 0} (b : Bool) (x y : X) → x ≡ y → (if b then x else y) ≡ y

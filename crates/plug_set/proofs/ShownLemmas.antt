@@ -1,14 +1,14 @@
 -- A plugin to which some packets are shown as dropped cells: it reports what it reports of the cells that it is
 -- shown.
-use Rattle.std.proofs.Common.{◌≡◌, ℕ, List, [], ◌∷◌, ◌++◌, length, take, Bool, true, false, Option, None, Some, if◌then◌else◌, refl, ap, sym, ◌∙◌}
-use Rattle.std.proofs.lemmas.List.{length-map, map-append, take-map}
+use Rattle.std.proofs.Common.{◌≡◌, ℕ, List, [], ◌∷◌, ◌++◌, length, take, drop, Bool, true, false, Option, None, Some, if◌then◌else◌, refl, ap, sym, ◌∙◌}
+use Rattle.std.proofs.lemmas.List.{length-map, map-append, take-map, drop-map}
 use Rattle.ts_packet.specs.declared.cell.Cell.{Cell}
 use Rattle.ts_packet.specs.Cells.{Live, Dropped}
 use Rattle.ts_packet.specs.Labels.{shares_label}
 use Rattle.chain_model.specs.PluginRule.{PluginRule}
 use Rattle.chain_model.specs.SeenCells.{only_rule, seen, sees}
 use Rattle.plugin_trait.specs.declared.line.Line.{Line}
-use Rattle.plugin_trait.specs.PlacedLines.{placed_at, placed_after, placed_of}
+use Rattle.plugin_trait.specs.PlacedLines.{placed_at, placed_after, placed_between}
 use Rattle.plugin_trait.specs.Steps.{HasRoom, MeetsCells}
 use Rattle.plug_set.specs.OnlyLabels.{rule_for, shown}
 
@@ -74,13 +74,23 @@ placed_after-shown only rule history (Dropped ∷ cells) =
     placed_after-shown only rule (history ++ Dropped ∷ []) cells
     ∙ ap (λ (h : List Cell). placed_after rule h (seen only cells)) (map-append (sees only) history (Dropped ∷ []))
 
--- all reports of the plugin are those of the cells that it sees
-placed_of-shown : (only : Option ℕ) (rule : PluginRule) (cells : List Cell) → placed_of (rule_for only rule) cells ≡ placed_of rule (shown only cells)
-placed_of-shown None rule cells = refl
-placed_of-shown (Some only) rule cells =
-    ap (λ (lines : List Line). lines ++ placed_at (length cells) (rule.summary_of (seen only cells))) (placed_after-shown only rule [] cells)
-    ∙ ap (λ (n : ℕ). placed_after rule [] (seen only cells) ++ placed_at n (rule.summary_of (seen only cells))) (sym (length-map cells (sees only)))
+-- the lines from one position up to another are those over the cells that it sees
+pub between-shown : (only : Option ℕ) (rule : PluginRule) (history : List Cell) (from to : ℕ)
+    → placed_between (rule_for only rule) history from to ≡ placed_between rule (shown only history) from to
+between-shown None rule history from to = refl
+between-shown (Some only) rule history from to =
+    placed_after-shown only rule (take from history) (drop from (take to history))
+    ∙ (ap (λ (h : List Cell). placed_after rule h (seen only (drop from (take to history)))) (sym (take-map (sees only) from history))
+    ∙ ap (λ (cells : List Cell). placed_after rule (take from (seen only history)) cells)
+    (sym (drop-map (sees only) from (take to history)) ∙ ap (drop from) (sym (take-map (sees only) to history))))
 
--- the same for the first cells
-pub placed-first : (only : Option ℕ) (rule : PluginRule) (n : ℕ) (cells : List Cell) → placed_of (rule_for only rule) (take n cells) ≡ placed_of rule (take n (shown only cells))
-placed-first only rule n cells = placed_of-shown only rule (take n cells) ∙ ap (placed_of rule) (take-shown only n cells)
+-- its summary, and whether it has a fault, are those over the cells that it sees
+pub summary-shown : (only : Option ℕ) (rule : PluginRule) (n : ℕ) (history : List Cell)
+    → (rule_for only rule).summary_of (take n history) ≡ rule.summary_of (take n (shown only history))
+summary-shown None rule n history = refl
+summary-shown (Some only) rule n history = ap rule.summary_of (take-shown (Some only) n history)
+
+pub fault-shown : (only : Option ℕ) (rule : PluginRule) (n : ℕ) (history : List Cell)
+    → (rule_for only rule).has_fault (take n history) ≡ rule.has_fault (take n (shown only history))
+fault-shown None rule n history = refl
+fault-shown (Some only) rule n history = ap rule.has_fault (take-shown (Some only) n history)

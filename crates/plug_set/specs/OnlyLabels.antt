@@ -2,7 +2,6 @@
 -- rule.
 use Rattle.std.specs.Prelude.{◌≡◌, ℕ, List, [], Bool, true, false, Option, None, Some}
 use Rattle.ts_packet.specs.declared.cell.Cell.{Cell}
-use Rattle.ts_packet.specs.Cells.{Live, Dropped}
 use Rattle.ts_packet.specs.Labels.{shares_label}
 use Rattle.chain_model.specs.PluginRule.{PluginRule}
 use Rattle.chain_model.specs.SeenCells.{only_rule, seen}
@@ -17,11 +16,10 @@ abbrev pub shown : Option ℕ → List Cell → List Cell
 shown None cells = cells
 shown (Some only) cells = seen only cells
 
--- the plugin sees the cell as it is
-abbrev pub shows : Option ℕ → Cell → Bool
-shows None cell = true
-shows (Some only) (Live packet labels) = shares_label labels only
-shows (Some only) Dropped = true
+-- the plugin sees a packet with these labels
+abbrev pub shows : Option ℕ → ℕ → Bool
+shows None labels = true
+shows (Some only) labels = shares_label labels only
 
 -- a plugin that does not agree before any cell does not agree before it sees one
 pub starts_open_for : (only : Option ℕ) (rule : PluginRule) → rule.agrees [] ≡ false

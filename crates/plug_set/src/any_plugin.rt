@@ -12,7 +12,7 @@ use crate::some_plugin::SomePlugin;
 use plug_psi::Changes;
 use plugin_trait::{Applied, Line, Outcome, Plugin};
 use std::alloc::{AllocError, Global};
-use ts_packet::Cell;
+use ts_packet::{Cell, Labels, Packet};
 use ts_section::Section;
 
 /// A plugin of the chain. It sees every packet, or only those that have one of its labels.
@@ -49,7 +49,7 @@ impl AnyPlugin {
     }
 
     /// Why the plugin was idle in all packets that it was shown; `None` where it was not, or where its kind edits,
-    /// inserts and reads nothing. It is asked before `finish`.
+    /// inserts and reads nothing. It is asked before the report.
     pub fn idle(&self) -> Result<Option<Idle>, AllocError> {
         why_idle(&self.masked.plugin)
     }
@@ -73,8 +73,12 @@ impl Plugin for AnyPlugin {
 
     ghost silent = { λ s. ⟦<MaskedPlugin<SomePlugin> as Plugin>⟧.silent s.masked };
 
-    fn step(&mut self, at: u64, cell: &mut Cell) -> Outcome {
-        self.masked.step(at, cell)
+    fn step(&mut self, at: u64, packet: &mut Packet, labels: &mut Labels) -> Outcome {
+        self.masked.step(at, packet, labels)
+    }
+
+    fn pass_over(&mut self, at: u64) {
+        self.masked.pass_over(at);
     }
 
     // A plugin that sees every packet takes the whole window in one call.
@@ -85,16 +89,20 @@ impl Plugin for AnyPlugin {
         }
     }
 
-    fn note(&mut self, written: u64) -> Result<(), AllocError> {
-        self.masked.note(written)
+    fn note(&mut self, written: u64, lines: &mut Vec<Line>) -> Result<(), AllocError> {
+        self.masked.note(written, lines)
+    }
+
+    fn summary(&self, at: u64, lines: &mut Vec<Line>) -> Result<(), AllocError> {
+        self.masked.summary(at, lines)
     }
 
     fn agreed(&self) -> bool {
         self.masked.agreed()
     }
 
-    fn finish(&mut self, cut: u64) -> Result<Vec<Line>, AllocError> {
-        self.masked.finish(cut)
+    fn has_fault(&self, cut: u64) -> bool {
+        self.masked.has_fault(cut)
     }
 
     ghost starts_open = { λ plugin history mark stands. starts_open_for plugin.masked.only

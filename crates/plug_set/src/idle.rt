@@ -25,13 +25,13 @@ pub enum Idle {
 /// Why a plugin was idle; `None` where it was not, or where it edits nothing in any case.
 pub(crate) fn why_idle(plugin: &SomePlugin) -> Result<Option<Idle>, AllocError> {
     match plugin {
-        SomePlugin::Pat(plugin) => idle_editor(plugin.unedited()),
-        SomePlugin::Cat(plugin) => idle_editor(plugin.unedited()),
-        SomePlugin::Pmt(plugin) => idle_editor(plugin.unedited()),
-        SomePlugin::Sdt(plugin) => idle_editor(plugin.unedited()),
-        SomePlugin::Nit(plugin) => idle_editor(plugin.unedited()),
-        SomePlugin::Zap(plugin) => idle_editor(Ok(plugin.unedited())),
-        SomePlugin::Svremove(plugin) => idle_editor(Ok(plugin.unedited())),
+        SomePlugin::Pat(plugin) => idle_editor(plugin.steps.unedited()),
+        SomePlugin::Cat(plugin) => idle_editor(plugin.steps.unedited()),
+        SomePlugin::Pmt(plugin) => idle_editor(plugin.steps.unedited()),
+        SomePlugin::Sdt(plugin) => idle_editor(plugin.steps.unedited()),
+        SomePlugin::Nit(plugin) => idle_editor(plugin.steps.unedited()),
+        SomePlugin::Zap(plugin) => idle_editor(Ok(plugin.steps.unedited())),
+        SomePlugin::Svremove(plugin) => idle_editor(Ok(plugin.steps.unedited())),
         SomePlugin::Remap(plugin) => Ok(idle_remap(plugin)),
         SomePlugin::Inject(plugin) => Ok(idle_inject(plugin)),
         SomePlugin::Tables(plugin) => Ok(idle_tables(plugin)),
@@ -44,18 +44,18 @@ fn idle_editor(found: Result<Option<Unedited>, AllocError>) -> Result<Option<Idl
 }
 
 fn idle_remap(plugin: &Remap) -> Option<Idle> {
-    if plugin.has_moved() {
+    if plugin.steps.has_moved() {
         return None;
     }
     Some(Idle::NoneMoved)
 }
 
 fn idle_inject(plugin: &Inject) -> Option<Idle> {
-    if plugin.has_inserted() {
+    if plugin.steps.has_inserted() {
         return None;
     }
-    if plugin.has_contents() {
-        return Some(Idle::NoPlace(plugin.target()));
+    if plugin.steps.has_contents() {
+        return Some(Idle::NoPlace(plugin.steps.target()));
     }
     Some(Idle::NothingToInsert)
 }

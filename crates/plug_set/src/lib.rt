@@ -8,6 +8,7 @@ mod laws;
 mod masked_plugin;
 mod plugin_conf;
 mod plugin_item;
+mod reading;
 mod sees_tables;
 mod some_plugin;
 
@@ -17,4 +18,5 @@ pub use laws::{only_joint_agrees, only_named_sections_count, silent_plugins_repo
 pub use plug_psi::{ChangedOn, Changes};
 pub use plugin_conf::{PluginConf, PluginKind};
 pub use plugin_item::PluginItem;
+pub use reading::only_label;
 pub use sees_tables::SeesTables;

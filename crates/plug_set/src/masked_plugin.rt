@@ -4,7 +4,7 @@ ghost use Rattle.std.specs.Prelude.{◌≡◌};
 
 use plugin_trait::{Line, Outcome, Plugin};
 use std::alloc::AllocError;
-use ts_packet::{Cell, Labels};
+use ts_packet::{Labels, Packet};
 
 /// A plugin to which every cell is shown as it is, or, where it has labels, a packet with none of them as a dropped
 /// one. Such a packet stays as it is.
@@ -17,16 +17,13 @@ pub(crate) struct MaskedPlugin<P> {
 impl<P> MaskedPlugin<P> {
     ghost use Rattle.plug_set.specs.OnlyLabels.{shows};
 
-    // Whether the cell is shown to the plugin as it is.
+    // Whether a packet with these labels is shown to the plugin.
     #[inline]
-    fn shows(&self, cell: &Cell) -> bool
-        ensures { result ≡ shows self.now.only cell.now }
+    fn shows(&self, labels: Labels) -> bool
+        ensures { result ≡ shows self.now.only labels }
     {
         match self.only {
-            Some(only) => match cell.live() {
-                Some(live) => live.labels.shares(only),
-                None => true,
-            },
+            Some(only) => labels.shares(only),
             None => true,
         }
     }
@@ -44,24 +41,32 @@ impl<P: Plugin + Drop> Plugin for MaskedPlugin<P> {
     ghost silent = { λ s. P.silent s.plugin };
 
     #[inline]
-    fn step(&mut self, at: u64, cell: &mut Cell) -> Outcome {
-        if self.shows(cell) {
-            return self.plugin.step(at, cell);
+    fn step(&mut self, at: u64, packet: &mut Packet, labels: &mut Labels) -> Outcome {
+        if self.shows(*labels) {
+            return self.plugin.step(at, packet, labels);
         }
-        let mut unseen = Cell::dropped();
-        self.plugin.step(at, &mut unseen)
+        self.plugin.pass_over(at);
+        Outcome::Pass
     }
 
-    fn note(&mut self, written: u64) -> Result<(), AllocError> {
-        self.plugin.note(written)
+    fn pass_over(&mut self, at: u64) {
+        self.plugin.pass_over(at);
+    }
+
+    fn note(&mut self, written: u64, lines: &mut Vec<Line>) -> Result<(), AllocError> {
+        self.plugin.note(written, lines)
+    }
+
+    fn summary(&self, at: u64, lines: &mut Vec<Line>) -> Result<(), AllocError> {
+        self.plugin.summary(at, lines)
     }
 
     fn agreed(&self) -> bool {
         self.plugin.agreed()
     }
 
-    fn finish(&mut self, cut: u64) -> Result<Vec<Line>, AllocError> {
-        self.plugin.finish(cut)
+    fn has_fault(&self, cut: u64) -> bool {
+        self.plugin.has_fault(cut)
     }
 
     ghost starts_open = { λ plugin history mark stands. starts_open_for plugin.only

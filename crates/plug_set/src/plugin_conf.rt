@@ -1,47 +1,24 @@
-//! The settings and the kinds of all plugins. A new one has a line in each list of this file.
-ghost use Rattle.std.specs.Prelude.{◌≡◌, Err, IfOk, IfSome, MatchResult, Ok, codes, false, find, map, option_map, true};
-ghost use Rattle.std.specs.Str.{bytes_eq};
-ghost use Rattle.std.specs.String.{string_bytes};
-ghost use Rattle.clap.specs.Simple.{app_of};
-ghost use Rattle.plug_conf.specs.NumberSet.{AllBelow};
-ghost use Rattle.option_words.specs.Forms.{ranges};
-ghost use Rattle.option_words.specs.Options.{command_of, is_formed, read_value};
-ghost use Rattle.option_words.specs.OptionTable.{OptionTable};
-ghost use Rattle.option_words.specs.Ranges.{ranges_of};
-ghost use Rattle.option_words.specs.Refusal.{IsRefusedBy, Reads, ReadsParsed};
-ghost use Rattle.option_words.specs.declared.words_rule.WordsRule.TheVariants.{Value};
-ghost use Rattle.plug_set.specs.declared.plugin_conf.PluginConf.{PluginConf as GivenConf};
-ghost use Rattle.plug_set.specs.Items.{IsLawfulItem, options_of_item, with_only_label};
-ghost use Rattle.plug_set.specs.Plugins.{IsLawful, kind_of, name_of, name_of_kind, options_of_plugin, plugin_kind_named, table_file_of, uses_joint};
+//! The settings and the kinds of all plugins. Written by tools/plugins from plugins.txt.
+ghost use Rattle.std.specs.Prelude.{◌≡◌, IfOk, option_map};
+ghost use Rattle.option_words.specs.OptionWords.{rows_of_options};
+ghost use Rattle.option_words.specs.Refusal.{ReadsParsed};
+ghost use Rattle.plug_set.specs.Plugins.{IsLawful, kind_of, name_of, name_of_kind, options_of_plugin, table_file_of, uses_joint};
 
-use crate::plugin_item::PluginItem;
-use clap::Command;
-use option_words::{ParsedOptions, Refusal, WordsRule, with_value};
-use plug_analyze::{AnalyzeConf, analyze_command, analyze_settings};
-use plug_conf::{LAST_LABEL, NumberSet};
-use plug_edit::{
-    EditCatConf, EditNitConf, EditPatConf, EditPmtConf, EditSdtConf, cat_command, cat_settings,
-    nit_command, nit_settings, pat_command, pat_settings, pmt_command, pmt_settings, sdt_command,
-    sdt_settings,
-};
-use plug_end::{UntilConf, until_command, until_settings};
-use plug_info::{InfoConf, info_command, info_settings};
-use plug_inject::{InjectConf, inject_command, inject_settings};
-use plug_move::{RemapConf, remap_command, remap_settings};
-use plug_pass::{
-    FilterConf, PatternConf, SkipConf, SliceConf, filter_command, filter_settings, pattern_command,
-    pattern_settings, skip_command, skip_settings, slice_command, slice_settings,
-};
-use plug_pcr::{PcrverifyConf, pcrverify_command, pcrverify_settings};
-use plug_service::{ServiceConf, service_command, service_settings};
-use plug_tables::{TablesConf, tables_command, tables_settings};
-use plug_watch::{
-    ContinuityConf, CountConf, continuity_command, continuity_settings, count_command,
-    count_settings,
-};
-use plug_window::{WindowConf, window_command, window_settings};
-use std::alloc::{AllocError, Global};
-use ts_packet::LABEL_COUNT;
+use option_words::{OptionRow, ParsedOptions, Refusal};
+use plug_analyze::AnalyzeConf;
+use plug_edit::{EditCatConf, EditNitConf, EditPatConf, EditPmtConf, EditSdtConf};
+use plug_end::UntilConf;
+use plug_info::InfoConf;
+use plug_inject::InjectConf;
+use plug_move::RemapConf;
+use plug_pass::{FilterConf, PatternConf, SkipConf, SliceConf};
+use plug_pcr::PcrverifyConf;
+use plug_service::{SvremoveConf, ZapConf};
+use plug_tables::TablesConf;
+use plug_watch::{ContinuityOptions, CountConf};
+use plug_window::{CompactConf, RmorphanConf};
+use plugin_entry::{PluginHelp, PluginSettings};
+use std::alloc::Global;
 
 /// The settings of one plugin of the chain.
 #[derive(Drop)]
@@ -52,7 +29,7 @@ pub enum PluginConf {
     Pattern(PatternConf),
     Until(UntilConf),
     Count(CountConf),
-    Continuity(ContinuityConf),
+    Continuity(ContinuityOptions),
     Remap(RemapConf),
     Inject(InjectConf),
     Pat(EditPatConf),
@@ -60,13 +37,13 @@ pub enum PluginConf {
     Pmt(EditPmtConf),
     Sdt(EditSdtConf),
     Nit(EditNitConf),
-    Zap(ServiceConf),
-    Svremove(ServiceConf),
+    Zap(ZapConf),
+    Svremove(SvremoveConf),
     Analyze(AnalyzeConf),
     Info(InfoConf),
     Tables(TablesConf),
-    Compact(WindowConf),
-    Rmorphan(WindowConf),
+    Compact(CompactConf),
+    Rmorphan(RmorphanConf),
     Pcrverify(PcrverifyConf),
 }
 
@@ -97,8 +74,8 @@ pub enum PluginKind {
     Pcrverify,
 }
 
-// All kinds.
-static KINDS: [PluginKind; 22] = [
+/// All kinds, in the order in which help names them.
+pub(crate) static KINDS: [PluginKind; 22] = [
     PluginKind::Filter,
     PluginKind::Skip,
     PluginKind::Slice,
@@ -123,204 +100,170 @@ static KINDS: [PluginKind; 22] = [
     PluginKind::Pcrverify,
 ];
 
-// The first of these kinds that has this name.
-fn kind_named(kinds: &[PluginKind], name: &str) -> Option<PluginKind>
-    ensures { result ≡ find (λ kind. bytes_eq name.now (name_of_kind kind)) kinds.now }
-{
-    for kind in kinds {
-        if name == kind.name() {
-            return Some(*kind);
-        }
-    }
-    None
-}
-
 impl PluginKind {
-    /// The kind of plugin with this name; `None` where there is none.
-    pub fn of(name: &str) -> Option<PluginKind>
-        ensures { result ≡ plugin_kind_named name.now }
-    {
-        kind_named(&KINDS, name)
-    }
-
     /// The name of the plugin on the command line and in the reports.
     pub fn name(self) -> &'static str
         ensures { result.now ≡ name_of_kind self }
     {
         match self {
-            PluginKind::Filter => "filter",
-            PluginKind::Skip => "skip",
-            PluginKind::Slice => "slice",
-            PluginKind::Pattern => "pattern",
-            PluginKind::Until => "until",
-            PluginKind::Count => "count",
-            PluginKind::Continuity => "continuity",
-            PluginKind::Remap => "remap",
-            PluginKind::Inject => "inject",
-            PluginKind::Pat => "pat",
-            PluginKind::Cat => "cat",
-            PluginKind::Pmt => "pmt",
-            PluginKind::Sdt => "sdt",
-            PluginKind::Nit => "nit",
-            PluginKind::Zap => "zap",
-            PluginKind::Svremove => "svremove",
-            PluginKind::Analyze => "analyze",
-            PluginKind::Info => "info",
-            PluginKind::Tables => "tables",
-            PluginKind::Compact => "compact",
-            PluginKind::Rmorphan => "rmorphan",
-            PluginKind::Pcrverify => "pcrverify",
+            PluginKind::Filter => <FilterConf as PluginSettings>::name(),
+            PluginKind::Skip => <SkipConf as PluginSettings>::name(),
+            PluginKind::Slice => <SliceConf as PluginSettings>::name(),
+            PluginKind::Pattern => <PatternConf as PluginSettings>::name(),
+            PluginKind::Until => <UntilConf as PluginSettings>::name(),
+            PluginKind::Count => <CountConf as PluginSettings>::name(),
+            PluginKind::Continuity => <ContinuityOptions as PluginSettings>::name(),
+            PluginKind::Remap => <RemapConf as PluginSettings>::name(),
+            PluginKind::Inject => <InjectConf as PluginSettings>::name(),
+            PluginKind::Pat => <EditPatConf as PluginSettings>::name(),
+            PluginKind::Cat => <EditCatConf as PluginSettings>::name(),
+            PluginKind::Pmt => <EditPmtConf as PluginSettings>::name(),
+            PluginKind::Sdt => <EditSdtConf as PluginSettings>::name(),
+            PluginKind::Nit => <EditNitConf as PluginSettings>::name(),
+            PluginKind::Zap => <ZapConf as PluginSettings>::name(),
+            PluginKind::Svremove => <SvremoveConf as PluginSettings>::name(),
+            PluginKind::Analyze => <AnalyzeConf as PluginSettings>::name(),
+            PluginKind::Info => <InfoConf as PluginSettings>::name(),
+            PluginKind::Tables => <TablesConf as PluginSettings>::name(),
+            PluginKind::Compact => <CompactConf as PluginSettings>::name(),
+            PluginKind::Rmorphan => <RmorphanConf as PluginSettings>::name(),
+            PluginKind::Pcrverify => <PcrverifyConf as PluginSettings>::name(),
         }
     }
 
-    // The plugin's own options.
-    fn command<'a>(self, alloc: Global) -> Result<Command<'a>, AllocError>
-        ensures { IfOk result (λ c. app_of c ≡ command_of (options_of_plugin self).rows) }
+    /// Its own options with what is said of them.
+    pub fn options(self) -> &'static [OptionRow<'static>]
+        ensures { rows_of_options result.now ≡ (options_of_plugin self).rows }
     {
         match self {
-            PluginKind::Filter => filter_command(alloc),
-            PluginKind::Skip => skip_command(alloc),
-            PluginKind::Slice => slice_command(alloc),
-            PluginKind::Pattern => pattern_command(alloc),
-            PluginKind::Until => until_command(alloc),
-            PluginKind::Count => count_command(alloc),
-            PluginKind::Continuity => continuity_command(alloc),
-            PluginKind::Remap => remap_command(alloc),
-            PluginKind::Inject => inject_command(alloc),
-            PluginKind::Pat => pat_command(alloc),
-            PluginKind::Cat => cat_command(alloc),
-            PluginKind::Pmt => pmt_command(alloc),
-            PluginKind::Sdt => sdt_command(alloc),
-            PluginKind::Nit => nit_command(alloc),
-            PluginKind::Zap => service_command(alloc),
-            PluginKind::Svremove => service_command(alloc),
-            PluginKind::Analyze => analyze_command(alloc),
-            PluginKind::Info => info_command(alloc),
-            PluginKind::Tables => tables_command(alloc),
-            PluginKind::Compact => window_command(alloc),
-            PluginKind::Rmorphan => window_command(alloc),
-            PluginKind::Pcrverify => pcrverify_command(alloc),
+            PluginKind::Filter => <FilterConf as PluginSettings>::options(),
+            PluginKind::Skip => <SkipConf as PluginSettings>::options(),
+            PluginKind::Slice => <SliceConf as PluginSettings>::options(),
+            PluginKind::Pattern => <PatternConf as PluginSettings>::options(),
+            PluginKind::Until => <UntilConf as PluginSettings>::options(),
+            PluginKind::Count => <CountConf as PluginSettings>::options(),
+            PluginKind::Continuity => <ContinuityOptions as PluginSettings>::options(),
+            PluginKind::Remap => <RemapConf as PluginSettings>::options(),
+            PluginKind::Inject => <InjectConf as PluginSettings>::options(),
+            PluginKind::Pat => <EditPatConf as PluginSettings>::options(),
+            PluginKind::Cat => <EditCatConf as PluginSettings>::options(),
+            PluginKind::Pmt => <EditPmtConf as PluginSettings>::options(),
+            PluginKind::Sdt => <EditSdtConf as PluginSettings>::options(),
+            PluginKind::Nit => <EditNitConf as PluginSettings>::options(),
+            PluginKind::Zap => <ZapConf as PluginSettings>::options(),
+            PluginKind::Svremove => <SvremoveConf as PluginSettings>::options(),
+            PluginKind::Analyze => <AnalyzeConf as PluginSettings>::options(),
+            PluginKind::Info => <InfoConf as PluginSettings>::options(),
+            PluginKind::Tables => <TablesConf as PluginSettings>::options(),
+            PluginKind::Compact => <CompactConf as PluginSettings>::options(),
+            PluginKind::Rmorphan => <RmorphanConf as PluginSettings>::options(),
+            PluginKind::Pcrverify => <PcrverifyConf as PluginSettings>::options(),
         }
     }
 
-    // The settings from the values of the own options of the plugin.
-    fn settings(self, alloc: Global, found: &ParsedOptions) -> Result<PluginConf, Refusal>
+    /// What is said of it beside its options.
+    pub fn help(self) -> PluginHelp {
+        match self {
+            PluginKind::Filter => <FilterConf as PluginSettings>::help(),
+            PluginKind::Skip => <SkipConf as PluginSettings>::help(),
+            PluginKind::Slice => <SliceConf as PluginSettings>::help(),
+            PluginKind::Pattern => <PatternConf as PluginSettings>::help(),
+            PluginKind::Until => <UntilConf as PluginSettings>::help(),
+            PluginKind::Count => <CountConf as PluginSettings>::help(),
+            PluginKind::Continuity => <ContinuityOptions as PluginSettings>::help(),
+            PluginKind::Remap => <RemapConf as PluginSettings>::help(),
+            PluginKind::Inject => <InjectConf as PluginSettings>::help(),
+            PluginKind::Pat => <EditPatConf as PluginSettings>::help(),
+            PluginKind::Cat => <EditCatConf as PluginSettings>::help(),
+            PluginKind::Pmt => <EditPmtConf as PluginSettings>::help(),
+            PluginKind::Sdt => <EditSdtConf as PluginSettings>::help(),
+            PluginKind::Nit => <EditNitConf as PluginSettings>::help(),
+            PluginKind::Zap => <ZapConf as PluginSettings>::help(),
+            PluginKind::Svremove => <SvremoveConf as PluginSettings>::help(),
+            PluginKind::Analyze => <AnalyzeConf as PluginSettings>::help(),
+            PluginKind::Info => <InfoConf as PluginSettings>::help(),
+            PluginKind::Tables => <TablesConf as PluginSettings>::help(),
+            PluginKind::Compact => <CompactConf as PluginSettings>::help(),
+            PluginKind::Rmorphan => <RmorphanConf as PluginSettings>::help(),
+            PluginKind::Pcrverify => <PcrverifyConf as PluginSettings>::help(),
+        }
+    }
+
+    // The settings from the values of its own options.
+    pub(crate) fn settings(
+        self,
+        alloc: Global,
+        found: &ParsedOptions,
+    ) -> Result<PluginConf, Refusal>
         ensures reads { ReadsParsed (options_of_plugin self) found.now result }
         ensures lawful { IfOk result IsLawful }
     {
         match self {
-            PluginKind::Filter => filter_settings(alloc, found).map(PluginConf::Filter),
-            PluginKind::Skip => skip_settings(found).map(PluginConf::Skip),
-            PluginKind::Slice => slice_settings(found).map(PluginConf::Slice),
-            PluginKind::Pattern => pattern_settings(alloc, found).map(PluginConf::Pattern),
-            PluginKind::Until => until_settings(found).map(PluginConf::Until),
-            PluginKind::Count => count_settings(alloc, found).map(PluginConf::Count),
-            PluginKind::Continuity => {
-                continuity_settings(alloc, found).map(PluginConf::Continuity)
-            }
-            PluginKind::Remap => remap_settings(alloc, found).map(PluginConf::Remap),
-            PluginKind::Inject => inject_settings(alloc, found).map(PluginConf::Inject),
-            PluginKind::Pat => pat_settings(alloc, found).map(PluginConf::Pat),
-            PluginKind::Cat => cat_settings(alloc, found).map(PluginConf::Cat),
-            PluginKind::Pmt => pmt_settings(alloc, found).map(PluginConf::Pmt),
-            PluginKind::Sdt => sdt_settings(alloc, found).map(PluginConf::Sdt),
-            PluginKind::Nit => nit_settings(alloc, found).map(PluginConf::Nit),
-            PluginKind::Zap => service_settings(found).map(PluginConf::Zap),
-            PluginKind::Svremove => service_settings(found).map(PluginConf::Svremove),
-            PluginKind::Analyze => analyze_settings(alloc, found).map(PluginConf::Analyze),
-            PluginKind::Info => info_settings(alloc, found).map(PluginConf::Info),
-            PluginKind::Tables => tables_settings(alloc, found).map(PluginConf::Tables),
-            PluginKind::Compact => window_settings(found).map(PluginConf::Compact),
-            PluginKind::Rmorphan => window_settings(found).map(PluginConf::Rmorphan),
-            PluginKind::Pcrverify => pcrverify_settings(alloc, found).map(PluginConf::Pcrverify),
+            PluginKind::Filter => <FilterConf as PluginSettings>::read(alloc, found).map(
+                PluginConf::Filter,
+            ),
+            PluginKind::Skip => <SkipConf as PluginSettings>::read(alloc, found).map(
+                PluginConf::Skip,
+            ),
+            PluginKind::Slice => <SliceConf as PluginSettings>::read(alloc, found).map(
+                PluginConf::Slice,
+            ),
+            PluginKind::Pattern => <PatternConf as PluginSettings>::read(alloc, found).map(
+                PluginConf::Pattern,
+            ),
+            PluginKind::Until => <UntilConf as PluginSettings>::read(alloc, found).map(
+                PluginConf::Until,
+            ),
+            PluginKind::Count => <CountConf as PluginSettings>::read(alloc, found).map(
+                PluginConf::Count,
+            ),
+            PluginKind::Continuity => <ContinuityOptions as PluginSettings>::read(alloc, found).map(
+                PluginConf::Continuity,
+            ),
+            PluginKind::Remap => <RemapConf as PluginSettings>::read(alloc, found).map(
+                PluginConf::Remap,
+            ),
+            PluginKind::Inject => <InjectConf as PluginSettings>::read(alloc, found).map(
+                PluginConf::Inject,
+            ),
+            PluginKind::Pat => <EditPatConf as PluginSettings>::read(alloc, found).map(
+                PluginConf::Pat,
+            ),
+            PluginKind::Cat => <EditCatConf as PluginSettings>::read(alloc, found).map(
+                PluginConf::Cat,
+            ),
+            PluginKind::Pmt => <EditPmtConf as PluginSettings>::read(alloc, found).map(
+                PluginConf::Pmt,
+            ),
+            PluginKind::Sdt => <EditSdtConf as PluginSettings>::read(alloc, found).map(
+                PluginConf::Sdt,
+            ),
+            PluginKind::Nit => <EditNitConf as PluginSettings>::read(alloc, found).map(
+                PluginConf::Nit,
+            ),
+            PluginKind::Zap => <ZapConf as PluginSettings>::read(alloc, found).map(PluginConf::Zap),
+            PluginKind::Svremove => <SvremoveConf as PluginSettings>::read(alloc, found).map(
+                PluginConf::Svremove,
+            ),
+            PluginKind::Analyze => <AnalyzeConf as PluginSettings>::read(alloc, found).map(
+                PluginConf::Analyze,
+            ),
+            PluginKind::Info => <InfoConf as PluginSettings>::read(alloc, found).map(
+                PluginConf::Info,
+            ),
+            PluginKind::Tables => <TablesConf as PluginSettings>::read(alloc, found).map(
+                PluginConf::Tables,
+            ),
+            PluginKind::Compact => <CompactConf as PluginSettings>::read(alloc, found).map(
+                PluginConf::Compact,
+            ),
+            PluginKind::Rmorphan => <RmorphanConf as PluginSettings>::read(alloc, found).map(
+                PluginConf::Rmorphan,
+            ),
+            PluginKind::Pcrverify => <PcrverifyConf as PluginSettings>::read(alloc, found).map(
+                PluginConf::Pcrverify,
+            ),
         }
-    }
-
-    /// Reads the words after the name.
-    pub fn read(self, alloc: Global, words: &[String]) -> Result<PluginItem, Refusal>
-        ensures reads { Reads (options_of_item self) (map string_bytes words.now) result }
-        ensures lawful { IfOk result IsLawfulItem }
-    {
-        let command = with_value(alloc, self.command(alloc)?, "only-label")?;
-        let found = ParsedOptions::of(command, words)?;
-        with_only_labels(alloc, self.settings(alloc, &found), &found)
-    }
-}
-
-// The labels of `--only-label`, where it is given.
-fn only_labels(alloc: Global, found: &ParsedOptions) -> Result<Option<NumberSet>, Refusal>
-    ensures reads { MatchResult result
-        (λ only. (is_formed (ranges LAST_LABEL) (codes "only-label") found.now ≡ true)
-        × (only ≡ read_value (ranges_of LAST_LABEL) (codes "only-label") found.now))
-        (IsRefusedBy Value (is_formed (ranges LAST_LABEL) (codes "only-label") found.now ≡ false)) }
-    ensures range { IfOk result (λ only. IfSome only (AllBelow LABEL_COUNT)) }
-{
-    if !found.has_value("only-label") {
-        return Ok(None);
-    }
-    let only = found.ranges(alloc, "only-label", LAST_LABEL)?;
-    Ok(Some(only))
-}
-
-// The settings of the own options of a plugin, with the labels of `--only-label`.
-fn with_only_labels(
-    alloc: Global,
-    conf: Result<PluginConf, Refusal>,
-    found: &ParsedOptions,
-) -> Result<PluginItem, Refusal>
-    requires { IfOk conf IsLawful }
-    ensures reads { (table : OptionTable GivenConf) → ReadsParsed table found.now conf
-        → ReadsParsed (with_only_label table) found.now result }
-    ensures lawful { IfOk result IsLawfulItem }
-{
-    match conf {
-        Ok(conf) => labelled(alloc, conf, found),
-        Err(refusal) => refused(alloc, refusal, found),
-    }
-}
-
-// The settings with those labels.
-fn labelled(alloc: Global, conf: PluginConf, found: &ParsedOptions) -> Result<PluginItem, Refusal>
-    requires { IsLawful conf }
-    ensures reads { (table : OptionTable GivenConf) → ReadsParsed table found.now (Ok conf)
-        → ReadsParsed (with_only_label table) found.now result }
-    ensures lawful { IfOk result IsLawfulItem }
-{
-    let (conf, only) = with_labels(alloc, conf, found)?;
-    Ok(PluginItem { conf, only })
-}
-
-// Any settings with those labels. They are a type parameter, since to say what becomes of a large value where it is
-// dropped takes long to prove.
-fn with_labels<C: Drop>(
-    alloc: Global,
-    conf: C,
-    found: &ParsedOptions,
-) -> Result<(C, Option<NumberSet>), Refusal>
-    ensures same { IfOk result (λ pair. pair.0 ≡ conf) }
-    ensures reads { MatchResult result
-        (λ pair. (is_formed (ranges LAST_LABEL) (codes "only-label") found.now ≡ true)
-        × (pair.1 ≡ read_value (ranges_of LAST_LABEL) (codes "only-label") found.now))
-        (IsRefusedBy Value (is_formed (ranges LAST_LABEL) (codes "only-label") found.now ≡ false)) }
-    ensures range { IfOk result (λ pair. IfSome pair.1 (AllBelow LABEL_COUNT)) }
-{
-    let only = only_labels(alloc, found)?;
-    Ok((conf, only))
-}
-
-// Why the words are refused, where the own options of the plugin are. A fault of the labels is reported before options
-// in conflict, and after what is missing.
-fn refused(alloc: Global, refusal: Refusal, found: &ParsedOptions) -> Result<PluginItem, Refusal>
-    ensures reads { (table : OptionTable GivenConf) → ReadsParsed table found.now (Err refusal)
-        → ReadsParsed (with_only_label table) found.now result }
-    ensures lawful { IfOk result IsLawfulItem }
-{
-    match refusal {
-        Refusal::Broken(WordsRule::Conflict) => {
-            let _ = only_labels(alloc, found)?;
-            Err(Refusal::Broken(WordsRule::Conflict))
-        }
-        refusal => Err(refusal),
     }
 }
 
@@ -368,8 +311,28 @@ impl PluginConf {
         ensures { option_map (λ name. name.now) result ≡ table_file_of self.now }
     {
         match self {
-            PluginConf::Inject(conf) => Some(conf.file.as_str()),
-            _ => None,
+            PluginConf::Filter(conf) => conf.table_file(),
+            PluginConf::Skip(conf) => conf.table_file(),
+            PluginConf::Slice(conf) => conf.table_file(),
+            PluginConf::Pattern(conf) => conf.table_file(),
+            PluginConf::Until(conf) => conf.table_file(),
+            PluginConf::Count(conf) => conf.table_file(),
+            PluginConf::Continuity(conf) => conf.table_file(),
+            PluginConf::Remap(conf) => conf.table_file(),
+            PluginConf::Inject(conf) => conf.table_file(),
+            PluginConf::Pat(conf) => conf.table_file(),
+            PluginConf::Cat(conf) => conf.table_file(),
+            PluginConf::Pmt(conf) => conf.table_file(),
+            PluginConf::Sdt(conf) => conf.table_file(),
+            PluginConf::Nit(conf) => conf.table_file(),
+            PluginConf::Zap(conf) => conf.table_file(),
+            PluginConf::Svremove(conf) => conf.table_file(),
+            PluginConf::Analyze(conf) => conf.table_file(),
+            PluginConf::Info(conf) => conf.table_file(),
+            PluginConf::Tables(conf) => conf.table_file(),
+            PluginConf::Compact(conf) => conf.table_file(),
+            PluginConf::Rmorphan(conf) => conf.table_file(),
+            PluginConf::Pcrverify(conf) => conf.table_file(),
         }
     }
 
@@ -378,8 +341,28 @@ impl PluginConf {
         ensures { result ≡ uses_joint self.now }
     {
         match self {
-            PluginConf::Until(conf) => conf.joint_termination,
-            _ => false,
+            PluginConf::Filter(conf) => conf.uses_joint_termination(),
+            PluginConf::Skip(conf) => conf.uses_joint_termination(),
+            PluginConf::Slice(conf) => conf.uses_joint_termination(),
+            PluginConf::Pattern(conf) => conf.uses_joint_termination(),
+            PluginConf::Until(conf) => conf.uses_joint_termination(),
+            PluginConf::Count(conf) => conf.uses_joint_termination(),
+            PluginConf::Continuity(conf) => conf.uses_joint_termination(),
+            PluginConf::Remap(conf) => conf.uses_joint_termination(),
+            PluginConf::Inject(conf) => conf.uses_joint_termination(),
+            PluginConf::Pat(conf) => conf.uses_joint_termination(),
+            PluginConf::Cat(conf) => conf.uses_joint_termination(),
+            PluginConf::Pmt(conf) => conf.uses_joint_termination(),
+            PluginConf::Sdt(conf) => conf.uses_joint_termination(),
+            PluginConf::Nit(conf) => conf.uses_joint_termination(),
+            PluginConf::Zap(conf) => conf.uses_joint_termination(),
+            PluginConf::Svremove(conf) => conf.uses_joint_termination(),
+            PluginConf::Analyze(conf) => conf.uses_joint_termination(),
+            PluginConf::Info(conf) => conf.uses_joint_termination(),
+            PluginConf::Tables(conf) => conf.uses_joint_termination(),
+            PluginConf::Compact(conf) => conf.uses_joint_termination(),
+            PluginConf::Rmorphan(conf) => conf.uses_joint_termination(),
+            PluginConf::Pcrverify(conf) => conf.uses_joint_termination(),
         }
     }
 }

@@ -1,4 +1,4 @@
-//! The plugins of all kinds as one type.
+//! The plugins of all kinds as one type. Written by tools/plugins from plugins.txt.
 
 ghost use Rattle.std.specs.Prelude.{◌≡◌, IfOk, []};
 ghost use Rattle.plug_set.specs.Plugins.{is_silent, rule_of, steady_of};
@@ -6,22 +6,22 @@ ghost use Rattle.plug_set.specs.Plugins.{is_silent, rule_of, steady_of};
 use crate::plugin_conf::PluginConf;
 use plug_analyze::Analyze;
 use plug_edit::{
-    CatEdit, Current, EditCat, EditNit, EditPat, EditPid, EditPmt, EditSdt, NitEdit, PatEdit,
-    PmtEdit, SdtEdit,
+    EditCat, EditNit, EditPat, EditPmt, EditSdt, new_edit_cat, new_edit_nit, new_edit_pat,
+    new_edit_pmt, new_edit_sdt,
 };
 use plug_end::Until;
 use plug_info::Info;
-use plug_inject::Inject;
-use plug_move::Remap;
-use plug_pass::{Filter, Pattern, Skip, Slice};
+use plug_inject::{Inject, new_inject};
+use plug_move::{Remap, new_remap};
+use plug_pass::{Filter, Pattern, Skip, Slice, new_filter, new_pattern, new_skip, new_slice};
 use plug_pcr::Pcrverify;
-use plug_service::{Svremove, Zap};
+use plug_service::{Svremove, Zap, new_svremove, new_zap};
 use plug_tables::Tables;
 use plug_watch::{Continuity, Count};
-use plug_window::{Compact, Rmorphan};
+use plug_window::{Compact, Rmorphan, new_compact, new_rmorphan};
 use plugin_trait::{Applied, Line, Outcome, Plugin};
 use std::alloc::{AllocError, Global};
-use ts_packet::Cell;
+use ts_packet::{Cell, Labels, Packet};
 use ts_section::Section;
 
 /// A plugin of any kind, to which each cell is shown.
@@ -110,32 +110,32 @@ impl SomePlugin {
         ensures silent { IfOk result (λ plugin. ⟦<SomePlugin as Plugin>⟧.silent plugin ≡ is_silent conf.now) }
     {
         match conf {
-            PluginConf::Filter(conf) => made!(Filter::new(alloc, conf, buffer), SomePlugin::Filter),
-            PluginConf::Skip(conf) => made!(Skip::new(alloc, conf, buffer), SomePlugin::Skip),
-            PluginConf::Slice(conf) => made!(Slice::new(alloc, conf, buffer), SomePlugin::Slice),
+            PluginConf::Filter(conf) => made!(new_filter(alloc, conf, buffer), SomePlugin::Filter),
+            PluginConf::Skip(conf) => made!(new_skip(alloc, conf, buffer), SomePlugin::Skip),
+            PluginConf::Slice(conf) => made!(new_slice(alloc, conf, buffer), SomePlugin::Slice),
             PluginConf::Pattern(conf) => made!(
-                Pattern::new(alloc, conf, buffer),
+                new_pattern(alloc, conf, buffer),
                 SomePlugin::Pattern
             ),
             PluginConf::Until(conf) => made!(Until::new(alloc, conf, buffer), SomePlugin::Until),
             PluginConf::Count(conf) => made!(Count::new(alloc, conf, buffer), SomePlugin::Count),
             PluginConf::Continuity(conf) => made!(
-                Continuity::new(alloc, conf, buffer),
+                Continuity::new(alloc, &conf.counters, buffer),
                 SomePlugin::Continuity
             ),
-            PluginConf::Remap(conf) => made!(Remap::new(alloc, conf, buffer), SomePlugin::Remap),
+            PluginConf::Remap(conf) => made!(new_remap(alloc, conf, buffer), SomePlugin::Remap),
             PluginConf::Inject(conf) => made!(
-                Inject::new(alloc, conf, sections),
+                new_inject(alloc, conf, sections),
                 SomePlugin::Inject
             ),
-            PluginConf::Pat(conf) => made!(EditPat::new(alloc, conf, buffer), SomePlugin::Pat),
-            PluginConf::Cat(conf) => made!(EditCat::new(alloc, conf, buffer), SomePlugin::Cat),
-            PluginConf::Pmt(conf) => made!(EditPmt::new(alloc, conf, buffer), SomePlugin::Pmt),
-            PluginConf::Sdt(conf) => made!(EditSdt::new(alloc, conf, buffer), SomePlugin::Sdt),
-            PluginConf::Nit(conf) => made!(EditNit::new(alloc, conf, buffer), SomePlugin::Nit),
-            PluginConf::Zap(conf) => made!(Zap::new(alloc, conf, buffer), SomePlugin::Zap),
+            PluginConf::Pat(conf) => made!(new_edit_pat(alloc, conf, buffer), SomePlugin::Pat),
+            PluginConf::Cat(conf) => made!(new_edit_cat(alloc, conf, buffer), SomePlugin::Cat),
+            PluginConf::Pmt(conf) => made!(new_edit_pmt(alloc, conf, buffer), SomePlugin::Pmt),
+            PluginConf::Sdt(conf) => made!(new_edit_sdt(alloc, conf, buffer), SomePlugin::Sdt),
+            PluginConf::Nit(conf) => made!(new_edit_nit(alloc, conf, buffer), SomePlugin::Nit),
+            PluginConf::Zap(conf) => made!(new_zap(alloc, &conf.service, buffer), SomePlugin::Zap),
             PluginConf::Svremove(conf) => made!(
-                Svremove::new(alloc, conf, buffer),
+                new_svremove(alloc, &conf.service, buffer),
                 SomePlugin::Svremove
             ),
             PluginConf::Analyze(conf) => made!(
@@ -145,10 +145,13 @@ impl SomePlugin {
             PluginConf::Info(conf) => made!(Info::new(alloc, conf, buffer), SomePlugin::Info),
             PluginConf::Tables(conf) => made!(Tables::new(alloc, conf, buffer), SomePlugin::Tables),
             PluginConf::Compact(conf) => made!(
-                Compact::new(alloc, conf, buffer),
+                new_compact(alloc, &conf.window, buffer),
                 SomePlugin::Compact
             ),
-            PluginConf::Rmorphan(conf) => made!(Rmorphan::new(alloc, conf), SomePlugin::Rmorphan),
+            PluginConf::Rmorphan(conf) => made!(
+                new_rmorphan(alloc, &conf.window),
+                SomePlugin::Rmorphan
+            ),
             PluginConf::Pcrverify(conf) => made!(
                 Pcrverify::new(alloc, conf, buffer),
                 SomePlugin::Pcrverify
@@ -171,11 +174,11 @@ impl Plugin for SomePlugin {
       | MadeContinuity p ↦ ⟦<Continuity as Plugin>⟧.rule p
       | MadeRemap p ↦ ⟦<Remap as Plugin>⟧.rule p
       | MadeInject p ↦ ⟦<Inject as Plugin>⟧.rule p
-      | MadePat p ↦ ⟦<EditPid<Current<PatEdit>> as Plugin>⟧.rule p
-      | MadeCat p ↦ ⟦<EditPid<Current<CatEdit>> as Plugin>⟧.rule p
-      | MadePmt p ↦ ⟦<EditPid<Current<PmtEdit>> as Plugin>⟧.rule p
-      | MadeSdt p ↦ ⟦<EditPid<Current<SdtEdit>> as Plugin>⟧.rule p
-      | MadeNit p ↦ ⟦<EditPid<Current<NitEdit>> as Plugin>⟧.rule p
+      | MadePat p ↦ ⟦<EditPat as Plugin>⟧.rule p
+      | MadeCat p ↦ ⟦<EditCat as Plugin>⟧.rule p
+      | MadePmt p ↦ ⟦<EditPmt as Plugin>⟧.rule p
+      | MadeSdt p ↦ ⟦<EditSdt as Plugin>⟧.rule p
+      | MadeNit p ↦ ⟦<EditNit as Plugin>⟧.rule p
       | MadeZap p ↦ ⟦<Zap as Plugin>⟧.rule p
       | MadeSvremove p ↦ ⟦<Svremove as Plugin>⟧.rule p
       | MadeAnalyze p ↦ ⟦<Analyze as Plugin>⟧.rule p
@@ -196,11 +199,11 @@ impl Plugin for SomePlugin {
       | MadeContinuity p ↦ ⟦<Continuity as Plugin>⟧.stands_for p
       | MadeRemap p ↦ ⟦<Remap as Plugin>⟧.stands_for p
       | MadeInject p ↦ ⟦<Inject as Plugin>⟧.stands_for p
-      | MadePat p ↦ ⟦<EditPid<Current<PatEdit>> as Plugin>⟧.stands_for p
-      | MadeCat p ↦ ⟦<EditPid<Current<CatEdit>> as Plugin>⟧.stands_for p
-      | MadePmt p ↦ ⟦<EditPid<Current<PmtEdit>> as Plugin>⟧.stands_for p
-      | MadeSdt p ↦ ⟦<EditPid<Current<SdtEdit>> as Plugin>⟧.stands_for p
-      | MadeNit p ↦ ⟦<EditPid<Current<NitEdit>> as Plugin>⟧.stands_for p
+      | MadePat p ↦ ⟦<EditPat as Plugin>⟧.stands_for p
+      | MadeCat p ↦ ⟦<EditCat as Plugin>⟧.stands_for p
+      | MadePmt p ↦ ⟦<EditPmt as Plugin>⟧.stands_for p
+      | MadeSdt p ↦ ⟦<EditSdt as Plugin>⟧.stands_for p
+      | MadeNit p ↦ ⟦<EditNit as Plugin>⟧.stands_for p
       | MadeZap p ↦ ⟦<Zap as Plugin>⟧.stands_for p
       | MadeSvremove p ↦ ⟦<Svremove as Plugin>⟧.stands_for p
       | MadeAnalyze p ↦ ⟦<Analyze as Plugin>⟧.stands_for p
@@ -221,11 +224,11 @@ impl Plugin for SomePlugin {
       | MadeContinuity p ↦ ⟦<Continuity as Plugin>⟧.steady p
       | MadeRemap p ↦ ⟦<Remap as Plugin>⟧.steady p
       | MadeInject p ↦ ⟦<Inject as Plugin>⟧.steady p
-      | MadePat p ↦ ⟦<EditPid<Current<PatEdit>> as Plugin>⟧.steady p
-      | MadeCat p ↦ ⟦<EditPid<Current<CatEdit>> as Plugin>⟧.steady p
-      | MadePmt p ↦ ⟦<EditPid<Current<PmtEdit>> as Plugin>⟧.steady p
-      | MadeSdt p ↦ ⟦<EditPid<Current<SdtEdit>> as Plugin>⟧.steady p
-      | MadeNit p ↦ ⟦<EditPid<Current<NitEdit>> as Plugin>⟧.steady p
+      | MadePat p ↦ ⟦<EditPat as Plugin>⟧.steady p
+      | MadeCat p ↦ ⟦<EditCat as Plugin>⟧.steady p
+      | MadePmt p ↦ ⟦<EditPmt as Plugin>⟧.steady p
+      | MadeSdt p ↦ ⟦<EditSdt as Plugin>⟧.steady p
+      | MadeNit p ↦ ⟦<EditNit as Plugin>⟧.steady p
       | MadeZap p ↦ ⟦<Zap as Plugin>⟧.steady p
       | MadeSvremove p ↦ ⟦<Svremove as Plugin>⟧.steady p
       | MadeAnalyze p ↦ ⟦<Analyze as Plugin>⟧.steady p
@@ -246,11 +249,11 @@ impl Plugin for SomePlugin {
       | MadeContinuity p ↦ ⟦<Continuity as Plugin>⟧.silent p
       | MadeRemap p ↦ ⟦<Remap as Plugin>⟧.silent p
       | MadeInject p ↦ ⟦<Inject as Plugin>⟧.silent p
-      | MadePat p ↦ ⟦<EditPid<Current<PatEdit>> as Plugin>⟧.silent p
-      | MadeCat p ↦ ⟦<EditPid<Current<CatEdit>> as Plugin>⟧.silent p
-      | MadePmt p ↦ ⟦<EditPid<Current<PmtEdit>> as Plugin>⟧.silent p
-      | MadeSdt p ↦ ⟦<EditPid<Current<SdtEdit>> as Plugin>⟧.silent p
-      | MadeNit p ↦ ⟦<EditPid<Current<NitEdit>> as Plugin>⟧.silent p
+      | MadePat p ↦ ⟦<EditPat as Plugin>⟧.silent p
+      | MadeCat p ↦ ⟦<EditCat as Plugin>⟧.silent p
+      | MadePmt p ↦ ⟦<EditPmt as Plugin>⟧.silent p
+      | MadeSdt p ↦ ⟦<EditSdt as Plugin>⟧.silent p
+      | MadeNit p ↦ ⟦<EditNit as Plugin>⟧.silent p
       | MadeZap p ↦ ⟦<Zap as Plugin>⟧.silent p
       | MadeSvremove p ↦ ⟦<Svremove as Plugin>⟧.silent p
       | MadeAnalyze p ↦ ⟦<Analyze as Plugin>⟧.silent p
@@ -261,24 +264,32 @@ impl Plugin for SomePlugin {
       | MadePcrverify p ↦ ⟦<Pcrverify as Plugin>⟧.silent p
     ] };
 
-    fn step(&mut self, at: u64, cell: &mut Cell) -> Outcome {
-        each_plugin!(self, plugin => plugin.step(at, cell))
+    fn step(&mut self, at: u64, packet: &mut Packet, labels: &mut Labels) -> Outcome {
+        each_plugin!(self, plugin => plugin.step(at, packet, labels))
+    }
+
+    fn pass_over(&mut self, at: u64) {
+        each_plugin!(self, plugin => plugin.pass_over(at))
     }
 
     fn steps(&mut self, at: u64, cells: &mut [Cell], noted: &mut bool) -> Applied {
         each_plugin!(self, plugin => plugin.steps(at, cells, noted))
     }
 
-    fn note(&mut self, written: u64) -> Result<(), AllocError> {
-        each_plugin!(self, plugin => plugin.note(written))
+    fn note(&mut self, written: u64, lines: &mut Vec<Line>) -> Result<(), AllocError> {
+        each_plugin!(self, plugin => plugin.note(written, lines))
+    }
+
+    fn summary(&self, at: u64, lines: &mut Vec<Line>) -> Result<(), AllocError> {
+        each_plugin!(self, plugin => plugin.summary(at, lines))
     }
 
     fn agreed(&self) -> bool {
         each_plugin!(self, plugin => plugin.agreed())
     }
 
-    fn finish(&mut self, cut: u64) -> Result<Vec<Line>, AllocError> {
-        each_plugin!(self, plugin => plugin.finish(cut))
+    fn has_fault(&self, cut: u64) -> bool {
+        each_plugin!(self, plugin => plugin.has_fault(cut))
     }
 
     ghost starts_open = { elim [

@@ -1,11 +1,11 @@
 -- Lines of tables, one packet after another, and those below a position.
-use Rattle.std.proofs.Common.{◌≡◌, ℕ, suc, ◌+◌, ◌-◌, ◌<◌, ◌≤◌, List, [], ◌∷◌, ◌++◌, length, take, map, filter, ap, sym, subst, ◌∙◌, inl, inr, refl, Bool, true, false, nat_lt, if◌then◌else◌, append_assoc, append-nil, arith, length-append, get_or}
+use Rattle.std.proofs.Common.{◌≡◌, ℕ, suc, ◌+◌, ◌-◌, ◌<◌, ◌≤◌, List, [], ◌∷◌, ◌++◌, length, take, drop, map, filter, ap, sym, subst, ◌∙◌, inl, inr, refl, Bool, true, false, nat_lt, if◌then◌else◌, append_assoc, append-nil, arith, length-append, get_or}
 use Rattle.std.specs.List.{take_while}
 use Rattle.std.proofs.Math.Seq.{take-nil}
 use Rattle.std.proofs.lemmas.Bool.{cases_lt}
 use Rattle.std.proofs.lemmas.Bool.Decides.{nat_tests}
 use Rattle.std.proofs.lemmas.Grind.{flat_map-append}
-use Rattle.std.proofs.lemmas.List.{map-append, take_more}
+use Rattle.std.proofs.lemmas.List.{append_cancel_left, drop-append-le, drop-take, length-take-le, map-append, take-append-drop, take-append-le, take_all, take_more}
 use Rattle.std.proofs.lemmas.List.Elements.{filter-append}
 use Rattle.std.proofs.lemmas.List.Sums.{take_while-cons}
 use Rattle.ts_packet.specs.declared.cell.Cell.{Cell}
@@ -13,9 +13,10 @@ use Rattle.ts_packet.specs.Cells.{Live, Dropped, live_packets, packet_in}
 use Rattle.ts_packet.specs.Header.{pid_of}
 use Rattle.chain_model.specs.PluginRule.{PluginRule}
 use Rattle.plugin_trait.specs.declared.line.Line.{Line}
-use Rattle.plugin_trait.specs.PlacedLines.{placed_after, placed_at, placed_of}
+use Rattle.plugin_trait.specs.PlacedLines.{placed_after, placed_at, placed_between}
+use Rattle.plugin_trait.proofs.Giving.{joined, placed_after-append}
 use Rattle.plug_tables.specs.TablesRule.{is_told, rule_with, table_text, table_texts}
-use Rattle.plug_tables.specs.TablesState.{StartsFrom, TellsTables}
+use Rattle.plug_tables.specs.TablesState.{TellsTables}
 use Rattle.plug_tables.specs.WatchedPackets.{Choice, tables_with}
 use Rattle.plug_tables.specs.TableReaderState.{HasMet, choice_in}
 use Rattle.plug_tables.specs.declared.table_reader.TableReader.{TableReader}
@@ -49,16 +50,20 @@ texts_more tids at pid i tables table before told told_new lt is so_far pushed =
     ∙ ap (filter (is_told tids))
     (ap (λ (t : List (List ℕ)). take i tables ++ t ∷ []) is ∙ sym (take_more tables i table lt)))))))
 
--- the lines with one cell more
-placed_after-append : (rule : PluginRule) (history xs ys : List Cell) → placed_after rule history (xs ++ ys) ≡ placed_after rule history xs ++ placed_after rule (history ++ xs) ys
-placed_after-append rule history [] ys = ap (λ (h : List Cell). placed_after rule h ys) (sym (append-nil history))
-placed_after-append rule history (Live packet labels ∷ xs) ys =
-    ap (λ (ls : List Line). placed_at (length history) (rule.lines_of history packet labels) ++ ls) (placed_after-append rule (history ++ Live packet labels ∷ []) xs ys)
-    ∙ (sym (append_assoc (placed_at (length history) (rule.lines_of history packet labels)) (placed_after rule (history ++ Live packet labels ∷ []) xs) (placed_after rule ((history ++ Live packet labels ∷ []) ++ xs) ys))
-    ∙ ap (λ (h : List Cell). (placed_at (length history) (rule.lines_of history packet labels) ++ placed_after rule (history ++ Live packet labels ∷ []) xs) ++ placed_after rule h ys) (append_assoc history (Live packet labels ∷ []) xs))
-placed_after-append rule history (Dropped ∷ xs) ys =
-    placed_after-append rule (history ++ Dropped ∷ []) xs ys
-    ∙ ap (λ (h : List Cell). placed_after rule (history ++ Dropped ∷ []) xs ++ placed_after rule h ys) (append_assoc history (Dropped ∷ []) xs)
+-- the lines from a mark on
+from_mark : (rule : PluginRule) (history : List Cell) (mark : ℕ) → placed_between rule history mark (length history) ≡ placed_after rule (take mark history) (drop mark history)
+from_mark rule history mark = ap (λ (cells : List Cell). placed_after rule (take mark history) (drop mark cells)) (take_all (length history) history (omega arith))
+
+-- those of one cell more come last
+one_more : (rule : PluginRule) (history : List Cell) (cell : Cell) (mark : ℕ) → mark ≤ length history
+    → placed_between rule (history ++ cell ∷ []) mark (length (history ++ cell ∷ [])) ≡ placed_between rule history mark (length history) ++ placed_after rule history (cell ∷ [])
+one_more rule history cell mark within =
+    from_mark rule (history ++ cell ∷ []) mark
+    ∙ (ap (λ (h : List Cell). placed_after rule h (drop mark (history ++ cell ∷ []))) (take-append-le mark history (cell ∷ []) within)
+    ∙ (ap (placed_after rule (take mark history)) (drop-append-le mark history (cell ∷ []) within)
+    ∙ (placed_after-append rule (take mark history) (drop mark history) (cell ∷ [])
+    ∙ (ap (λ (h : List Cell). placed_after rule (take mark history) (drop mark history) ++ placed_after rule h (cell ∷ [])) (take-append-drop mark history)
+    ∙ ap (λ (ls : List Line). ls ++ placed_after rule history (cell ∷ [])) (sym (from_mark rule history mark))))))
 
 live-live : (history : List Cell) (packet : List ℕ) (labels : ℕ) → live_packets (history ++ Live packet labels ∷ []) ≡ live_packets history ++ packet ∷ []
 live-live history packet labels = flat_map-append packet_in history (Live packet labels ∷ [])
@@ -71,7 +76,7 @@ pub tells_dropped : (reader : TableReader) (tids : List (ℕ × ℕ)) (told : Li
     → TellsTables reader tids told (history ++ Dropped ∷ []) mark
 tells_dropped reader tids told history mark w = record {
   met = subst (HasMet reader) (sym (live-dropped history)) w.met;
-  lines = w.lines ∙ sym (placed_after-append (rule_with (choice_in reader) tids) [] history (Dropped ∷ []) ∙ append-nil (placed_after (rule_with (choice_in reader) tids) [] history));
+  lines = w.lines ∙ sym (one_more (rule_with (choice_in reader) tids) history Dropped mark w.marked ∙ append-nil (placed_between (rule_with (choice_in reader) tids) history mark (length history)));
   marked = omega (arith, w.marked, length-append history (Dropped ∷ []));
 }
 
@@ -83,17 +88,18 @@ pub tells_live : (reader reader_new : TableReader) (tids : List (ℕ × ℕ)) (t
     → TellsTables reader_new tids told_new (history ++ Live packet labels ∷ []) mark
 tells_live reader reader_new tids told told_new history mark packet labels at pid tables w met same at_is pid_is tables_are pushed =
     let rule : PluginRule = rule_with (choice_in reader) tids in
+    let before : List Line = placed_between rule history mark (length history) in
     record {
       met = subst (HasMet reader_new) (sym (live-live history packet labels)) met;
       lines =
           pushed
           ∙ (ap (λ (ls : List Line). ls ++ placed_at at (table_texts tids at pid tables)) w.lines
-          ∙ (ap (λ (n : ℕ). placed_after rule [] history ++ placed_at n (table_texts tids n pid tables)) at_is
-          ∙ (ap (λ (n : ℕ). placed_after rule [] history ++ placed_at (length history) (table_texts tids (length history) n tables)) pid_is
-          ∙ (ap (λ (ts : List (List (List ℕ))). placed_after rule [] history ++ placed_at (length history) (table_texts tids (length history) (pid_of packet) ts)) tables_are
-          ∙ (ap (λ (ls : List Line). placed_after rule [] history ++ ls) (sym (append-nil (placed_at (length history) (rule.lines_of history packet labels))))
-          ∙ (sym (placed_after-append rule [] history (Live packet labels ∷ []))
-          ∙ ap (λ (c : Choice). placed_after (rule_with c tids) [] (history ++ Live packet labels ∷ [])) (sym same)))))));
+          ∙ (ap (λ (n : ℕ). before ++ placed_at n (table_texts tids n pid tables)) at_is
+          ∙ (ap (λ (n : ℕ). before ++ placed_at (length history) (table_texts tids (length history) n tables)) pid_is
+          ∙ (ap (λ (ts : List (List (List ℕ))). before ++ placed_at (length history) (table_texts tids (length history) (pid_of packet) ts)) tables_are
+          ∙ (ap (λ (ls : List Line). before ++ ls) (sym (append-nil (placed_at (length history) (rule.lines_of history packet labels))))
+          ∙ (sym (one_more rule history (Live packet labels) mark w.marked)
+          ∙ ap (λ (c : Choice). placed_between (rule_with c tids) (history ++ Live packet labels ∷ []) mark (length (history ++ Live packet labels ∷ []))) (sym same)))))));
       marked = omega (arith, w.marked, length-append history (Live packet labels ∷ []));
     }
 
@@ -156,16 +162,32 @@ below_placed rule cut history (Dropped ∷ cells) =
       | inr late ↦ late_take rule cut history (Dropped ∷ cells) late
     ]
 
--- the report over the cells before a position
-pub report_is : (reader : TableReader) (tids : List (ℕ × ℕ)) (told lines : List Line) (history : List Cell) (mark cut : ℕ) → TellsTables reader tids told history mark
-    → lines ≡ take_while (λ (l : Line). nat_lt l.at cut) told → lines ≡ placed_of (rule_with (choice_in reader) tids) (take cut history)
-report_is reader tids told lines history mark cut w is =
+-- of the lines from a mark on, those below a later mark are those between the two
+pub below_is : (rule : PluginRule) (told : List Line) (history : List Cell) (mark written : ℕ) → told ≡ placed_between rule history mark (length history) → mark ≤ written → written ≤ length history
+    → take_while (λ (l : Line). nat_lt l.at written) told ≡ placed_between rule history mark written
+below_is rule told history mark written is le within =
+    let far : length (take mark history) ≡ mark = length-take-le mark history (omega arith) in
+    let more : mark + (written - mark) ≡ written = omega arith in
+    ap (take_while (λ (l : Line). nat_lt l.at written)) (is ∙ from_mark rule history mark)
+    ∙ (below_placed rule written (take mark history) (drop mark history)
+    ∙ ap (placed_after rule (take mark history))
+    (ap (λ (n : ℕ). take (written - n) (drop mark history)) far
+    ∙ (sym (drop-take mark (written - mark) history)
+    ∙ ap (λ (n : ℕ). drop mark (take n history)) more)))
+
+-- after those were taken off, the rest are the lines from the later mark on
+pub gives : (reader : TableReader) (tids : List (ℕ × ℕ)) (told told_new : List Line) (history : List Cell) (mark written : ℕ) → TellsTables reader tids told history mark → mark ≤ written → written ≤ length history
+    → take_while (λ (l : Line). nat_lt l.at written) told ++ told_new ≡ told → TellsTables reader tids told_new history written
+gives reader tids told told_new history mark written w le within left =
     let rule : PluginRule = rule_with (choice_in reader) tids in
-    is
-    ∙ (ap (take_while (λ (l : Line). nat_lt l.at cut)) w.lines
-    ∙ (below_placed rule cut [] history
-    ∙ (ap (λ (k : ℕ). placed_after rule [] (take k history)) (let all : cut - 0 ≡ cut = omega arith in all)
-    ∙ sym (append-nil (placed_after rule [] (take cut history))))))
+    let given : List Line = placed_between rule history mark written in
+    record {
+      met = w.met;
+      lines = append_cancel_left given told_new (placed_between rule history written (length history))
+          (ap (λ (ls : List Line). ls ++ told_new) (sym (below_is rule told history mark written w.lines le within))
+          ∙ (left ∙ (w.lines ∙ sym (joined rule history mark written (length history) le within))));
+      marked = within;
+    }
 
 -- one line below the position is taken off
 pub one_below : (cut : ℕ) (taken rest : List Line) (line : Line) → taken ≡ line ∷ rest → line.at < cut
@@ -176,8 +198,21 @@ one_below cut taken rest line is lt =
     ∙ (take_while-cons test line rest
     ∙ ap (λ (b : Bool). if b then line ∷ take_while test rest else []) (is_below line.at cut lt))
 
-pub none_below : (cut : ℕ) (lines : List Line) → StartsFrom cut lines → take_while (λ (l : Line). nat_lt l.at cut) lines ≡ []
-none_below cut [] starts = refl
-none_below cut (line ∷ lines) starts =
-    let test : Line → Bool = λ l. nat_lt l.at cut in
-    take_while-cons test line lines ∙ ap (λ (b : Bool). if b then line ∷ take_while test lines else []) (not_below line.at cut starts)
+-- lines moved from the front of some to the end of others, one after another
+pub record Moved (cut : ℕ) (told_old lines_old told lines : List Line) : Type 0 where
+  pub moved : List Line
+  pub split : told_old ≡ moved ++ told
+  pub below : take_while (λ (l : Line). nat_lt l.at cut) told_old ≡ moved ++ take_while (λ (l : Line). nat_lt l.at cut) told
+  pub pushed : lines ≡ lines_old ++ moved
+
+-- one more
+pub one_moved : (cut : ℕ) (told_old lines_old told lines told_new lines_new : List Line) (line : Line) → Moved cut told_old lines_old told lines → told ≡ line ∷ told_new → line.at < cut → lines_new ≡ lines ++ line ∷ []
+    → Moved cut told_old lines_old told_new lines_new
+one_moved cut told_old lines_old told lines told_new lines_new line so_far is lt pushed = record {
+  moved = so_far.moved ++ line ∷ [];
+  split = so_far.split ∙ (ap (λ (ls : List Line). so_far.moved ++ ls) is ∙ sym (append_assoc so_far.moved (line ∷ []) told_new));
+  below = so_far.below
+      ∙ (ap (λ (ls : List Line). so_far.moved ++ ls) (one_below cut told told_new line is lt)
+      ∙ sym (append_assoc so_far.moved (line ∷ []) (take_while (λ (l : Line). nat_lt l.at cut) told_new)));
+  pushed = pushed ∙ (ap (λ (ls : List Line). ls ++ line ∷ []) so_far.pushed ∙ append_assoc lines_old so_far.moved (line ∷ []));
+}

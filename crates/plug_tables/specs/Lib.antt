@@ -6,3 +6,4 @@ pub mod TablesStands
 pub mod TablesState
 pub mod TablesWords
 pub mod WatchedPackets
+pub mod TablesEntry

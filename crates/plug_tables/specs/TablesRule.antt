@@ -51,6 +51,7 @@ rule_with choice tids = record {
   lines_of = λ history packet _. lines_on choice tids history packet;
   summary_of = λ _. [];
   agrees = λ _. false;
+  has_fault = λ _. false;
 }
 
 -- the rule that the settings make

@@ -13,4 +13,3 @@ mod telling;
 pub use limits::LAST_TABLE_ID;
 pub use tables::Tables;
 pub use tables_conf::TablesConf;
-pub use tables_words::{tables_command, tables_settings};

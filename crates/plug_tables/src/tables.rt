@@ -1,8 +1,7 @@
 //! The plugin `tables`.
 
-ghost use Rattle.std.specs.Prelude.{◌≡◌, ◌<◌, ◌∷◌, IfOk, IfSome, IfNone, OnOk, [], None, nat_lt};
+ghost use Rattle.std.specs.Prelude.{◌≡◌, ◌<◌, ◌∷◌, ◌++◌, IfSome, IfNone, OnOk, OnErr, length, nat_lt};
 ghost use Rattle.std.specs.List.{take_while};
-ghost use Rattle.plug_tables.specs.TablesRule.{tables_rule};
 ghost use Rattle.plug_tables.specs.TablesState.{StartsFrom};
 
 use crate::table_reader::TableReader;
@@ -13,17 +12,19 @@ use plug_psi::{Changes, FailureLatch};
 use plugin_trait::{Line, Outcome, Plugin};
 use std::alloc::{AllocError, Global};
 use std::collections::VecDeque;
-use ts_packet::{Cell, Packet};
+use ts_packet::{Labels, Packet};
 
 /// Reports the tables of a stream as JSON, each at the packet that completes it.
 ///
-/// If a step runs out of memory, every later step does too, and nothing is reported.
+/// If a step runs out of memory, every later step does too, and no line is given out any more.
 #[derive(Drop)]
 pub struct Tables {
     reader: TableReader,
     tids: NumberSet,
-    /// The lines so far, in the order of their positions.
+    /// The lines from the greatest mark on, in the order of their positions.
     told: VecDeque<Line>,
+    /// Whether there were lines when a mark came.
+    had_lines: bool,
     failed: FailureLatch,
     alloc: Global,
 }
@@ -36,7 +37,7 @@ impl Tables {
     ghost use Rattle.plug_tables.specs.TablesSettings.{IsLawfulTables};
     ghost use Rattle.plug_tables.specs.TablesStands.{StandsFor, has_failed, rule_in};
 
-    /// A new plugin, which has processed no cell. Its lines, and what is kept of the tables, grow with the stream.
+    /// A new plugin, which has processed no cell. What is kept of the tables grows with the stream.
     pub fn new(alloc: Global, conf: &TablesConf, buffer: usize) -> Result<Tables, AllocError>
         requires { IsLawfulTables conf.now }
         ensures rule { IfOk result (λ plugin. ⟦<Tables as Plugin>⟧.rule plugin ≡ tables_rule conf.now) }
@@ -51,14 +52,15 @@ impl Tables {
             reader,
             tids,
             told: VecDeque::new(alloc),
+            had_lines: false,
             failed: FailureLatch::unset(),
             alloc,
         })
     }
 
-    /// Whether a table was read, and its line waits for `finish`.
+    /// Whether a table was read that is reported.
     pub fn has_read(&self) -> bool {
-        self.told.front().is_some()
+        self.had_lines || self.told.front().is_some()
     }
 
     /// Adds the watched PIDs on which tables changed without a new version.
@@ -94,25 +96,41 @@ impl Tables {
 }
 
 // Removes the first line and returns it, if it is below a position.
-fn pop_below(told: &mut VecDeque<Line>, cut: u64) -> Option<Line>
-    ensures taken { IfSome result (λ line. (told.old.items ≡ line ∷ told.new.items) × (line.at < cut)) }
-    ensures left { IfNone result (StartsFrom cut told.old.items) }
+fn pop_below(told: &mut VecDeque<Line>, mark: u64) -> Option<Line>
+    ensures taken { IfSome result (λ line. (told.old.items ≡ line ∷ told.new.items) × (line.at < mark)) }
+    ensures left { IfNone result ((told.new.items ≡ told.old.items) × StartsFrom mark told.old.items) }
 {
-    if told.front()?.at >= cut {
+    if told.front()?.at >= mark {
         return None;
     }
     told.pop_front()
 }
 
-// Removes the lines below a position, and returns them.
-fn lines_below(alloc: Global, told: &mut VecDeque<Line>, cut: u64) -> Result<Vec<Line>, AllocError>
-    ensures { IfOk result (λ lines. lines.items ≡ take_while (λ line. nat_lt line.at cut) told.old.items) }
+// How many lines are below a position.
+fn count_below(told: &VecDeque<Line>, mark: u64) -> usize
+    ensures { result ≡ length (take_while (λ line. nat_lt line.at mark) told.now.items) }
 {
-    let mut lines = Vec::new(alloc);
-    while let Some(line) = pop_below(told, cut) {
-        lines.push(line)?;
+    let mut count = 0;
+    while let Some(line) = told.get(count) {
+        if line.at >= mark {
+            break;
+        }
+        count += 1;
     }
-    Ok(lines)
+    count
+}
+
+// Moves the lines below a position to the end of others. Out of memory none is moved.
+fn give_below(told: &mut VecDeque<Line>, lines: &mut Vec<Line>, mark: u64) -> Result<(), AllocError>
+    ensures given { OnOk result (lines.new.items ≡ lines.old.items ++ take_while (λ line. nat_lt line.at mark) told.old.items) }
+    ensures left { OnOk result (take_while (λ line. nat_lt line.at mark) told.old.items ++ told.new.items ≡ told.old.items) }
+    ensures err { OnErr result ((told.new.items ≡ told.old.items) × (lines.new.items ≡ lines.old.items)) }
+{
+    lines.reserve(count_below(told, mark))?;
+    while let Some(line) = pop_below(told, mark) {
+        lines.push_reserved(line);
+    }
+    Ok(())
 }
 
 impl Plugin for Tables {
@@ -123,20 +141,22 @@ impl Plugin for Tables {
 
     ghost stands_for = { λ s history mark. (has_failed s ≡ false → StandsFor s history mark) × (mark ≤ length history) };
 
-    ghost steady = { λ s. None };
+    ghost steady = { λ _. None };
 
     #[inline]
-    fn step(&mut self, at: u64, cell: &mut Cell) -> Outcome {
-        let Some(live) = cell.live() else {
-            return Outcome::Pass;
-        };
-        match self.meet(at, &live.packet) {
+    fn step(&mut self, at: u64, packet: &mut Packet, _labels: &mut Labels) -> Outcome {
+        match self.meet(at, packet) {
             Ok(()) => Outcome::Pass,
             Err(_) => Outcome::NoMemory,
         }
     }
 
-    fn note(&mut self, _written: u64) -> Result<(), AllocError> {
+    fn pass_over(&mut self, _at: u64) {}
+
+    fn note(&mut self, written: u64, lines: &mut Vec<Line>) -> Result<(), AllocError> {
+        self.failed.check()?;
+        self.had_lines = self.has_read();
+        give_below(&mut self.told, lines, written)?;
         Ok(())
     }
 
@@ -144,10 +164,12 @@ impl Plugin for Tables {
         false
     }
 
-    fn finish(&mut self, cut: u64) -> Result<Vec<Line>, AllocError> {
-        self.failed.check()?;
-        let lines = lines_below(self.alloc, &mut self.told, cut)?;
-        Ok(lines)
+    fn summary(&self, _at: u64, _lines: &mut Vec<Line>) -> Result<(), AllocError> {
+        Ok(())
+    }
+
+    fn has_fault(&self, _cut: u64) -> bool {
+        false
     }
 
     ghost starts_open = { λ plugin history mark stands. refl };

@@ -11,9 +11,9 @@ conf_of s = record { pid = s.pids; fix = s.fix }
 
 -- its parts stand for the cells that were processed, and for the greatest mark
 abbrev pub StandsFor : Continuity → List Cell → ℕ → Type 0
-StandsFor s history mark = Watches (conf_of s) s.last s.notes.items s.lines.items history mark
+StandsFor s history mark = Watches (conf_of s) s.last s.notes.items s.fault_count history mark
 
--- it names no number of positions at which it never runs out of memory, since its lines grow
+-- it names no number of positions at which it never runs out of memory, since its lines need memory at a mark
 abbrev pub steady_of : Continuity → Option ℕ
 steady_of s = None
 

@@ -1,5 +1,5 @@
 -- The rule of `continuity`. This project's own rule, over the continuity_counter of ISO/IEC 13818-1, 2.4.3.3.
-use Rattle.std.specs.Prelude.{ℕ, List, [], ◌∷◌, ◌++◌, length, false, ◌&&◌, Option, None, Some, codes, if◌then◌else◌}
+use Rattle.std.specs.Prelude.{ℕ, nat_lt, List, [], ◌∷◌, ◌++◌, length, false, ◌&&◌, Option, None, Some, codes, if◌then◌else◌}
 use Rattle.std.specs.Fmt.{decimal}
 use Rattle.ts_packet.specs.declared.cell.Cell.{Cell}
 use Rattle.ts_packet.specs.Header.{pid_of, counter_of, with_counter}
@@ -44,4 +44,5 @@ continuity_rule conf = record {
   lines_of = λ history packet _. fault_on conf history packet;
   summary_of = λ history. faults_text (length (faults_in conf history)) ∷ [];
   agrees = λ _. false;
+  has_fault = λ history. nat_lt 0 (length (faults_in conf history));
 }

@@ -11,4 +11,4 @@ conf_of s = record { pid = s.pids; negate = s.negate; all = s.all; total = s.tot
 
 -- its parts stand for the cells that were processed, and for the greatest mark
 abbrev pub StandsFor : Count → List Cell → ℕ → Type 0
-StandsFor s history mark = Counts (conf_of s) s.notes.items s.tally s.lines.items history mark
+StandsFor s history mark = Counts (conf_of s) s.notes.items s.tally history mark

@@ -55,4 +55,5 @@ count_rule conf = record {
   lines_of = λ history packet _. if conf.all then line_on conf history packet else [];
   summary_of = λ history. summary_on conf.total (counted conf history);
   agrees = λ _. false;
+  has_fault = λ _. false;
 }

@@ -1,19 +1,16 @@
 -- What a value of `count` keeps. This project's own rule.
-use Rattle.std.specs.Prelude.{◌≡◌, ◌≤◌, ℕ, List, [], length, map, if◌then◌else◌}
+use Rattle.std.specs.Prelude.{◌≤◌, ℕ, List, length}
 use Rattle.ts_packet.specs.declared.cell.Cell.{Cell}
 use Rattle.chain_model.specs.declared.positions.TheConstants.{POSITION_LIMIT}
-use Rattle.plugin_trait.specs.declared.line.Line.{Line}
 use Rattle.plug_watch.specs.declared.count_conf.CountConf.{CountConf}
-use Rattle.plug_watch.specs.CountNotes.{IsTallied, line_of_note, note_on}
+use Rattle.plug_watch.specs.CountNotes.{IsTallied, note_on}
 use Rattle.plugin_notes.specs.NotesKept.{KeepsNotes, notes_below}
 use Rattle.plug_watch.specs.declared.note.Note.{Note}
 use Rattle.plugin_notes.specs.declared.tally.Tally.{Tally}
 
--- the packets before the mark are in the counts and, with `all`, in the lines; those from the mark on are in the
--- notes
+-- the packets before the mark are in the counts, and those from the mark on are in the notes
 pub record Counts (conf : CountConf) (notes : List Note) (tally : Tally)
-    (lines : List Line) (history : List Cell) (mark : ℕ) : Type 0 where
+    (history : List Cell) (mark : ℕ) : Type 0 where
   pub keeps : KeepsNotes (note_on conf) notes history mark
   pub tallied : IsTallied tally (notes_below (note_on conf) mark history)
-  pub lined : lines ≡ (if conf.all then map line_of_note (notes_below (note_on conf) mark history) else [])
   pub short : length history ≤ POSITION_LIMIT

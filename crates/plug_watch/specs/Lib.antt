@@ -14,3 +14,5 @@ pub mod CountSettings
 pub mod CountWords
 pub mod ContinuitySettings
 pub mod ContinuityWords
+pub mod ContinuityEntry
+pub mod CountEntry

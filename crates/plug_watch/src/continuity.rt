@@ -10,8 +10,7 @@ use plugin_notes::{
 };
 use plugin_trait::{Line, LineText, Outcome, Plugin};
 use std::alloc::{AllocError, Global};
-use std::mem;
-use ts_packet::{Cell, NULL_PID, PID_COUNT, Packet};
+use ts_packet::{Labels, NULL_PID, PID_COUNT, Packet};
 
 /// Reports packets whose continuity counter is not the expected one, and with `fix` corrects the counters.
 #[derive(Drop)]
@@ -21,9 +20,8 @@ pub struct Continuity {
     last: LastPackets,
     /// The errors from the greatest mark on.
     notes: HeapCircularBuffer<ContinuityError>,
-    /// The lines of the errors below the mark.
-    lines: Vec<Line>,
-    alloc: Global,
+    /// How many errors are below the mark.
+    fault_count: u64,
 }
 
 impl Continuity {
@@ -31,7 +29,7 @@ impl Continuity {
     ghost use Rattle.ts_packet.specs.declared.cell.Cell.{Cell as GivenCell};
     ghost use Rattle.ts_packet.specs.Cells.{Live};
     ghost use Rattle.ts_packet.specs.Header.{pid_of};
-    ghost use Rattle.plugin_trait.specs.Marks.{AllowsMark, Notes};
+    ghost use Rattle.chain_model.specs.declared.positions.TheConstants.{POSITION_LIMIT};
     ghost use Rattle.plugin_trait.specs.Steps.{MeetsCells};
     ghost use Rattle.plug_watch.specs.ContinuitySettings.{IsLawfulContinuity};
     ghost use Rattle.plug_watch.specs.ContinuityRule.{continuity_rule, fixed};
@@ -39,7 +37,7 @@ impl Continuity {
     ghost use Rattle.plug_watch.specs.ContinuityConfOf.{IsFull, StandsFor, conf_of, room_of};
 
     /// A new plugin, which has processed no cell. It allocates its tables, and room for notes on as many packets as
-    /// the buffer holds; the lines of the errors grow with the stream.
+    /// the buffer holds.
     pub fn new(
         alloc: Global,
         conf: &ContinuityConf,
@@ -56,8 +54,7 @@ impl Continuity {
             fix: conf.fix,
             last: LastPackets::new(alloc)?,
             notes: HeapCircularBuffer::with_capacity(alloc, buffer)?,
-            lines: Vec::new(alloc),
-            alloc,
+            fault_count: 0,
         })
     }
 
@@ -73,6 +70,7 @@ impl Continuity {
     fn watch(&mut self, at: u64, packet: &mut Packet) -> Result<(), AllocError>
         requires watched { is_watched (conf_of self.old) (pid_of packet.old) ≡ true }
         requires met { MeetsCells (StandsFor self.old) at }
+        requires in_range { at < POSITION_LIMIT }
         ensures edited { OnOk result ((history : List GivenCell) (mark : ℕ) → StandsFor self.old history mark
             → packet.new ≡ (if self.old.fix then fixed history packet.old else packet.old)) }
         ensures met { OnOk result ((history : List GivenCell) (mark : ℕ) → StandsFor self.old history mark
@@ -81,7 +79,7 @@ impl Continuity {
         ensures full { IsErr result → IsFull self.old }
         ensures reserved { room_of self.new ≡ room_of self.old }
         ensures err { OnErr result ((self.new.last ≡ self.old.last) × (self.new.notes.items ≡ self.old.notes.items)
-            × (self.new.lines.items ≡ self.old.lines.items) × (packet.new ≡ packet.old)) }
+            × (self.new.fault_count ≡ self.old.fault_count) × (packet.new ≡ packet.old)) }
     {
         push_if_any(&mut self.notes, self.last.fault(at, packet))?;
         let right = self.last.keep(packet);
@@ -90,26 +88,14 @@ impl Continuity {
         }
         Ok(())
     }
-
-    // Removes the notes below a position, and appends their lines. Out of memory nothing is changed.
-    fn fold(&mut self, mark: u64) -> Result<(), AllocError>
-        requires { AllowsMark (StandsFor self.old) mark }
-        ensures notes { Notes (StandsFor self.old) (StandsFor self.new) mark result }
-        ensures same { conf_of self.new ≡ conf_of self.old }
-        ensures reserved { room_of self.new ≡ room_of self.old }
-    {
-        push_lines_below(&mut self.lines, &self.notes, mark)?;
-        drop_below(&mut self.notes, mark);
-        Ok(())
-    }
 }
 
 impl Plugin for Continuity {
     ghost use Rattle.std.specs.Prelude.{◌≡◌, ◌≢◌, ◌<◌, IsOk, IsSome, refl};
-    ghost use Rattle.ts_packet.specs.Cells.{Dropped};
+    ghost use Rattle.ts_packet.specs.Cells.{Live};
     ghost use Rattle.chain_model.specs.declared.positions.TheConstants.{POSITION_LIMIT};
-    ghost use Rattle.plugin_trait.specs.Marks.{AllowsMark, Notes};
-    ghost use Rattle.plugin_trait.specs.Steps.{HasRoom, Meets, MeetsCells, Tells};
+    ghost use Rattle.plugin_trait.specs.Marks.{AllowsMark, GivesLines};
+    ghost use Rattle.plugin_trait.specs.Steps.{HasRoom, Meets, MeetsCells, Tells, left_of};
     ghost use Rattle.plug_watch.specs.ContinuityRule.{continuity_rule};
     ghost use Rattle.plug_watch.specs.ContinuityConfOf.{IsFull, StandsFor, conf_of, room_of, steady_of};
 
@@ -123,52 +109,55 @@ impl Plugin for Continuity {
     /// memory only where there is no room for one more note, and the room for notes stays the same.
     // Inlined always: otherwise the loop of `steps` has a call for each cell.
     #[inline(always)]
-    fn step(&mut self, at: u64, cell: &mut Cell) -> Outcome
+    fn step(&mut self, at: u64, packet: &mut Packet, labels: &mut Labels) -> Outcome
         requires met { MeetsCells (StandsFor self.old) at }
         requires in_range { at < POSITION_LIMIT }
-        ensures tells { Tells (continuity_rule (conf_of self.old)) (StandsFor self.old) at cell.old result cell.new }
-        ensures dropped { cell.old ≡ Dropped → result ≡ Outcome.Pass }
-        ensures meets { Meets (StandsFor self.old) (StandsFor self.new) at cell.old result }
+        ensures tells { Tells (continuity_rule (conf_of self.old)) (StandsFor self.old) at (Live packet.old labels.old) result
+            (left_of result packet.new labels.new) }
+        ensures meets { Meets (StandsFor self.old) (StandsFor self.new) at (Live packet.old labels.old) result }
         ensures same_rule { continuity_rule (conf_of self.new) ≡ continuity_rule (conf_of self.old) }
         ensures same_steady { steady_of self.new ≡ steady_of self.old }
         ensures room { HasRoom (steady_of self.old) (StandsFor self.old) at → result ≢ Outcome.NoMemory }
         ensures full { result ≡ Outcome.NoMemory → IsFull self.old }
         ensures reserved { room_of self.new ≡ room_of self.old }
     {
-        let Some(live) = cell.live_mut() else {
-            return Outcome::Pass;
-        };
-        if !self.watches(live.packet.pid()) {
+        if !self.watches(packet.pid()) {
             return Outcome::Pass;
         }
-        match self.watch(at, &mut live.packet) {
+        match self.watch(at, packet) {
             Ok(()) => Outcome::Pass,
             Err(_) => Outcome::NoMemory,
         }
     }
 
+    fn pass_over(&mut self, _at: u64) {}
+
     /// The clauses are those of `Plugin`, and one more: the room for notes stays the same.
-    fn note(&mut self, written: u64) -> Result<(), AllocError>
+    fn note(&mut self, written: u64, lines: &mut Vec<Line>) -> Result<(), AllocError>
         requires { AllowsMark (StandsFor self.old) written }
-        ensures notes { Notes (StandsFor self.old) (StandsFor self.new) written result }
+        ensures gives { GivesLines (continuity_rule (conf_of self.old)) (StandsFor self.old) (StandsFor self.new) written
+            lines.old.items lines.new.items result }
         ensures same_rule { continuity_rule (conf_of self.new) ≡ continuity_rule (conf_of self.old) }
         ensures same_steady { steady_of self.new ≡ steady_of self.old }
         ensures room { IsSome (steady_of self.old) → IsOk result }
         ensures reserved { room_of self.new ≡ room_of self.old }
     {
-        self.fold(written)
+        push_lines_below(lines, &self.notes, written)?;
+        self.fault_count += drop_below(&mut self.notes, written);
+        Ok(())
+    }
+
+    fn summary(&self, at: u64, lines: &mut Vec<Line>) -> Result<(), AllocError> {
+        let text = format!(in *lines.allocator(); "faults {}", self.fault_count)?;
+        push_line(lines, at, LineText::of(text))
     }
 
     fn agreed(&self) -> bool {
         false
     }
 
-    fn finish(&mut self, cut: u64) -> Result<Vec<Line>, AllocError> {
-        self.fold(cut)?;
-        let mut lines = mem::replace(&mut self.lines, Vec::new(self.alloc));
-        let text = format!(in self.alloc; "faults {}", lines.len())?;
-        push_line(&mut lines, cut, LineText::of(text))?;
-        Ok(lines)
+    fn has_fault(&self, _cut: u64) -> bool {
+        self.fault_count > 0
     }
 
     ghost starts_open = { λ plugin history mark stands. refl };

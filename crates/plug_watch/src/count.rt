@@ -13,8 +13,7 @@ use plug_conf::PidSet;
 use plugin_notes::{Tally, pop_below, push_lines_below, push_note};
 use plugin_trait::{Line, Outcome, Plugin};
 use std::alloc::{AllocError, Global};
-use std::mem;
-use ts_packet::Cell;
+use ts_packet::{Labels, Packet};
 
 /// Counts packets by PID, and with `all` reports a line for each.
 #[derive(Drop)]
@@ -27,21 +26,15 @@ pub struct Count {
     tally: Tally,
     /// The packets from the mark on, which are not counted yet.
     notes: HeapCircularBuffer<Note>,
-    /// With `all`, the lines of the packets below the mark.
-    lines: Vec<Line>,
-    alloc: Global,
 }
 
 impl Count {
-    ghost use Rattle.std.specs.Prelude.{◌≡◌, IfOk, IsOk, [], None, Some, false, if◌then◌else◌};
+    ghost use Rattle.std.specs.Prelude.{◌≡◌, IfOk, [], None, Some, if◌then◌else◌};
     ghost use Rattle.plug_watch.specs.CountSettings.{IsLawfulCount};
     ghost use Rattle.plug_watch.specs.CountRule.{count_rule};
-    ghost use Rattle.plug_watch.specs.CountConfOf.{StandsFor, conf_of};
-    ghost use Rattle.plugin_trait.specs.Marks.{Notes};
-    ghost use Rattle.plugin_trait.specs.Steps.{MeetsSome};
 
     /// A new plugin, which has processed no cell. It allocates its tables, and room for notes on as many packets as
-    /// the buffer holds; with `all` its lines grow with the stream.
+    /// the buffer holds.
     pub fn new(alloc: Global, conf: &CountConf, buffer: usize) -> Result<Count, AllocError>
         requires { IsLawfulCount conf.now }
         ensures rule { IfOk result (λ plugin. ⟦<Count as Plugin>⟧.rule plugin ≡ count_rule conf.now) }
@@ -55,23 +48,7 @@ impl Count {
             total: conf.total,
             tally: Tally::new(alloc)?,
             notes: HeapCircularBuffer::with_capacity(alloc, buffer)?,
-            lines: Vec::new(alloc),
-            alloc,
         })
-    }
-
-    // Counts the notes below a position and removes them; with `all` their lines are appended. If there is no memory
-    // for the lines, nothing is changed.
-    fn fold(&mut self, mark: u64) -> Result<(), AllocError>
-        requires { MeetsSome (StandsFor self.old) }
-        ensures notes { Notes (StandsFor self.old) (StandsFor self.new) mark result }
-        ensures same { conf_of self.new ≡ conf_of self.old }
-        ensures capacity { self.new.notes.capacity ≡ self.old.notes.capacity }
-        ensures room { self.old.all ≡ false → IsOk result }
-    {
-        push_lines_if(self.all, &mut self.lines, &self.notes, mark)?;
-        fold_below(&mut self.notes, &mut self.tally, mark);
-        Ok(())
     }
 }
 
@@ -116,11 +93,8 @@ impl Plugin for Count {
     ghost steady = { λ s. if s.all then None else Some s.notes.capacity };
 
     #[inline]
-    fn step(&mut self, at: u64, cell: &mut Cell) -> Outcome {
-        let Some(live) = cell.live() else {
-            return Outcome::Pass;
-        };
-        let pid = live.packet.pid();
+    fn step(&mut self, at: u64, packet: &mut Packet, _labels: &mut Labels) -> Outcome {
+        let pid = packet.pid();
         if !self.pids.selects(self.negate, pid) {
             return Outcome::Pass;
         }
@@ -130,19 +104,24 @@ impl Plugin for Count {
         }
     }
 
-    fn note(&mut self, written: u64) -> Result<(), AllocError> {
-        self.fold(written)
+    fn pass_over(&mut self, _at: u64) {}
+
+    fn note(&mut self, written: u64, lines: &mut Vec<Line>) -> Result<(), AllocError> {
+        push_lines_if(self.all, lines, &self.notes, written)?;
+        fold_below(&mut self.notes, &mut self.tally, written);
+        Ok(())
+    }
+
+    fn summary(&self, at: u64, lines: &mut Vec<Line>) -> Result<(), AllocError> {
+        push_summary(lines, at, &self.tally, self.total)
     }
 
     fn agreed(&self) -> bool {
         false
     }
 
-    fn finish(&mut self, cut: u64) -> Result<Vec<Line>, AllocError> {
-        self.fold(cut)?;
-        let mut lines = mem::replace(&mut self.lines, Vec::new(self.alloc));
-        push_summary(&mut lines, cut, &self.tally, self.total)?;
-        Ok(lines)
+    fn has_fault(&self, _cut: u64) -> bool {
+        false
     }
 
     ghost starts_open = { λ plugin history mark stands. refl };

@@ -3,6 +3,7 @@
 #![tactic(auto)]
 
 mod continuity;
+mod continuity_options;
 mod continuity_words;
 mod count;
 mod count_conf;
@@ -11,10 +12,9 @@ mod note;
 mod summary;
 
 pub use continuity::Continuity;
-pub use continuity_words::{continuity_command, continuity_settings};
+pub use continuity_options::ContinuityOptions;
 pub use count::Count;
 pub use count_conf::CountConf;
-pub use count_words::{count_command, count_settings};
 pub use note::Note;
 pub use plugin_notes::{
     ContinuityConf, ContinuityError, LastPackets, LineNote, PacketNote, Tally, pop_below, push_note,

@@ -17,9 +17,8 @@ pub met-always : (result : Outcome) (left : Cell) (history : List Cell) (cell : 
 met-always result left history cell told = ap (λ (word : Outcome). met_after word history cell) told ∙ goes_on-met left history cell
 
 -- a live cell adds one row
-pub rows-more : (history : List Cell) (cell : Cell) (packet : List ℕ) (labels : ℕ) → cell ≡ Live packet labels → live_rows (history ++ cell ∷ []) ≡ live_rows history ++ labelled packet labels ∷ []
-rows-more history cell packet labels is =
-    ap (λ (x : Cell). live_rows (history ++ x ∷ [])) is ∙ flat_map-append row_in history (Live packet labels ∷ [])
+pub rows-more : (history : List Cell) (packet : List ℕ) (labels : ℕ) → live_rows (history ++ Live packet labels ∷ []) ≡ live_rows history ++ labelled packet labels ∷ []
+rows-more history packet labels = flat_map-append row_in history (Live packet labels ∷ [])
 
 pub marks-more : (history : List Cell) (cell : Cell) (mark : ℕ) → mark ≤ length history → mark ≤ length (history ++ cell ∷ [])
 marks-more history cell mark le = let h : length (history ++ cell ∷ []) ≡ length history + 1 = length-append history (cell ∷ []) in omega arith

@@ -9,3 +9,5 @@ pub mod RmorphanState
 pub mod LateState
 pub mod WindowSettings
 pub mod WindowWords
+pub mod CompactEntry
+pub mod RmorphanEntry

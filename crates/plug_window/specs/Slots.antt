@@ -1,15 +1,8 @@
 -- The cell in whose place an earlier packet is output. This project's own rule.
-use Rattle.std.specs.Prelude.{ℕ}
 use Rattle.ts_packet.specs.declared.cell.Cell.{Cell}
 use Rattle.ts_packet.specs.Cells.{Live, Dropped}
-use Rattle.ts_packet.specs.Labels.{no_labels}
 use Rattle.plugin_trait.specs.declared.outcome.Outcome.{Outcome}
 use Rattle.plugin_trait.specs.declared.outcome.Outcome.TheVariants.{Pass, Drop}
-
--- the labels of a cell, and none of a dropped one
-abbrev pub labels_in : Cell → ℕ
-labels_in (Live packet labels) = labels
-labels_in Dropped = no_labels
 
 -- the outcome of a step that leaves this cell, after which the list goes on
 abbrev pub outcome_word : Cell → Outcome

@@ -5,15 +5,20 @@
 
 mod block_line;
 mod compact;
+mod compact_conf;
+mod compact_words;
 mod late_line;
 mod laws;
 mod rmorphan;
+mod rmorphan_conf;
+mod rmorphan_words;
 mod slot;
 mod window_conf;
 mod window_words;
 
-pub use compact::Compact;
+pub use compact::{Compact, CompactSteps, new_compact};
+pub use compact_conf::CompactConf;
 pub use laws::{compact_gives_blocks, delays_never_end, given_one_by_one, rmorphan_gives_referred};
-pub use rmorphan::Rmorphan;
+pub use rmorphan::{Rmorphan, RmorphanSteps, new_rmorphan};
+pub use rmorphan_conf::RmorphanConf;
 pub use window_conf::WindowConf;
-pub use window_words::{window_command, window_settings};

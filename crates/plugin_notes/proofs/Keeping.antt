@@ -2,16 +2,18 @@
 use Rattle.std.proofs.Common.{◌≡◌, ℕ, ◌+◌, ◌-◌, ◌<◌, ◌≤◌, List, [], ◌∷◌, ◌++◌, length, take, drop, map, ap, sym, subst, ◌∙◌, refl, true, not, nat_lt, arith, length-append, length-take, length-drop, drop-drop}
 use Rattle.std.specs.List.{All, take_while}
 use Rattle.std.proofs.Math.Seq.{take-add}
-use Rattle.std.proofs.lemmas.List.{append_cancel_left, drop-append-le, map-append, take-append-drop, take-append-le}
+use Rattle.std.proofs.lemmas.List.{append_cancel_left, drop-append-le, drop-take, take-append-drop, take-append-le}
 use Rattle.std.proofs.lemmas.List.Elements.{All-append}
 use Rattle.ts_packet.specs.declared.cell.Cell.{Cell}
 use Rattle.ts_packet.specs.Cells.{Live, Dropped}
 use Rattle.ts_packet.specs.declared.numbers.TheConstants.{PID_COUNT}
 use Rattle.chain_model.specs.declared.positions.TheConstants.{POSITION_LIMIT}
+use Rattle.chain_model.specs.PluginRule.{PluginRule}
 use Rattle.plugin_trait.specs.declared.line.Line.{Line}
+use Rattle.plugin_trait.specs.PlacedLines.{placed_at, placed_between}
 use Rattle.plugin_notes.specs.Notes.{notes_after}
 use Rattle.plugin_notes.specs.NotesKept.{CanFold, KeepsNotes, StartsFrom, TakesBelow, notes_below}
-use Rattle.plugin_notes.proofs.Noting.{IsNoteAt, fails_first, length-notes_after, not_below, notes_after-append, take_while-notes_after, take_while-split}
+use Rattle.plugin_notes.proofs.Noting.{IsNoteAt, fails_first, length-notes_after, not_below, notes_after-append, placed_after-notes, take_while-notes_after, take_while-split}
 
 -- the first note, which is not below the mark, fails the test of being below it
 starts_failing : {N : Type 0} (at : N → ℕ) (mark : ℕ) (notes : List N) → StartsFrom at mark notes → fails_first (λ n. nat_lt (at n) mark) notes ≡ true
@@ -26,6 +28,11 @@ take-to n m cells le =
 -- what is left after removing items twice
 drop-to : (n m : ℕ) (cells : List Cell) → n ≤ m → drop (m - n) (drop n cells) ≡ drop m cells
 drop-to n m cells le = drop-drop (m - n) n cells ∙ ap (λ (k : ℕ). drop k cells) (let same : n + (m - n) ≡ m = omega arith in same)
+
+-- the items from one number up to another
+between : (n m : ℕ) (cells : List Cell) → n ≤ m → drop n (take m cells) ≡ take (m - n) (drop n cells)
+between n m cells le =
+    ap (λ (k : ℕ). drop n (take k cells)) (let same : m ≡ n + (m - n) = omega arith in same) ∙ drop-take n (m - n) cells
 
 -- the mark stays within a history that is one cell longer
 pub longer : (history : List Cell) (cell : Cell) (mark : ℕ) → mark ≤ length history → mark ≤ length (history ++ cell ∷ [])
@@ -56,13 +63,17 @@ module _ {N : Type 0} (note : List Cell → List ℕ → List N) where
       length-notes_after note at one (take mark history) (drop mark history),
     )
 
+    -- with those before the mark there are no more than cells
+    pub few_all : length (notes_below note mark history) + length notes ≤ length history
+    few_all = omega (arith, few_notes, length-notes_after note at one [] (take mark history), length-take mark history, w.marked)
+
     -- they can be counted
     pub can_fold : {S : Type 0} (pid : N → ℕ) (Counted : S → List N → Type 0) (sums : S) → Counted sums (notes_below note mark history) → length history ≤ POSITION_LIMIT
         → ((history : List Cell) (packet : List ℕ) → All (λ (n : N). pid n < PID_COUNT) (note history packet)) → CanFold pid Counted notes sums
     can_fold pid Counted sums counted short each = record {
       before = notes_below note mark history;
       counted = counted;
-      few = omega (arith, few_notes, length-notes_after note at one [] (take mark history), length-take mark history, short, w.marked);
+      few = omega (arith, few_all, short);
       on_pids = subst (All (λ (n : N). pid n < PID_COUNT)) (sym w.kept) (all_on_pids pid each (take mark history) (drop mark history));
     }
 
@@ -86,7 +97,7 @@ module _ {N : Type 0} (note : List Cell → List ℕ → List N) where
           ∙ take_while-split (λ (n : N). nat_lt (at n) to) takes.taken notes_new takes.below (starts_failing at to notes_new takes.left)
 
       -- they are those on the cells between the marks
-      taken_is : takes.taken ≡ notes_after note (take mark history) (take (to - mark) (drop mark history))
+      pub taken_is : takes.taken ≡ notes_after note (take mark history) (take (to - mark) (drop mark history))
       taken_is =
           sym front_is
           ∙ (ap (take_while (λ (n : N). nat_lt (at n) to)) w.kept
@@ -119,12 +130,22 @@ module _ {N : Type 0} (note : List Cell → List ℕ → List N) where
       pub counted_below : {S : Type 0} (Counted : S → List N → Type 0) (sums : S) → Counted sums (notes_below note mark history ++ takes.taken) → Counted sums (notes_below note to history)
       counted_below Counted sums counted = subst (Counted sums) below_taken counted
 
-      -- the lines of those below the position, after those of the notes before the mark
-      pub lines_below : (line : N → Line) (lines lines_new : List Line) → lines ≡ map line (notes_below note mark history)
-          → lines_new ≡ lines ++ map line (take_while (λ (n : N). nat_lt (at n) to) notes) → lines_new ≡ map line (notes_below note to history)
-      lines_below line lines lines_new lined pushed =
-          pushed
-          ∙ (ap (λ (ls : List Line). ls ++ map line (take_while (λ (n : N). nat_lt (at n) to) notes)) lined
-          ∙ (ap (λ (ns : List N). map line (notes_below note mark history) ++ map line ns) front_is
-          ∙ (sym (map-append line (notes_below note mark history) takes.taken)
-          ∙ ap (map line) below_taken)))
+      -- as many more are before the position as were removed
+      pub number_to : (removed : ℕ) → removed + length notes_new ≡ length notes → length (notes_below note mark history) + removed ≡ length (notes_below note to history)
+      number_to removed counted = omega (
+        arith,
+        counted,
+        ap length takes.split,
+        length-append takes.taken notes_new,
+        ap length below_taken,
+        length-append (notes_below note mark history) takes.taken,
+      )
+
+      -- the lines of those below the position are those of a rule whose lines are the notes'
+      pub given_is : (rule : PluginRule) (line : N → Line)
+          → ((history : List Cell) (packet : List ℕ) (labels : ℕ) → placed_at (length history) (rule.lines_of history packet labels) ≡ map line (note history packet))
+          → map line (take_while (λ (n : N). nat_lt (at n) to) notes) ≡ placed_between rule history mark to
+      given_is rule line lines =
+          ap (map line) (front_is ∙ taken_is)
+          ∙ (ap (λ (cells : List Cell). map line (notes_after note (take mark history) cells)) (sym (between mark to history le))
+          ∙ sym (placed_after-notes note at one rule line lines (take mark history) (drop mark (take to history))))

@@ -1,6 +1,6 @@
 //! Notes on packets that are not counted yet, in a buffer of a fixed size, oldest first. A note leaves the buffer
 //! once its packet stands before the mark, or before the cut.
-ghost use Rattle.std.specs.Prelude.{◌≡◌, ◌<◌, ◌≤◌, ◌∷◌, ◌++◌, [], IfSome, IfNone, IfOk, OnOk, OnErr, IsErr, IsOk, None, length, map, nat_lt, option_to_list};
+ghost use Rattle.std.specs.Prelude.{◌≡◌, ◌<◌, ◌≤◌, ◌+◌, ◌∷◌, ◌++◌, [], IfSome, IfNone, IfOk, OnOk, OnErr, IsErr, IsOk, None, length, map, nat_lt, option_to_list};
 ghost use Rattle.std.specs.List.{take_while};
 ghost use Rattle.plugin_notes.specs.NotesKept.{StartsFrom, TakesBelow};
 
@@ -80,12 +80,15 @@ pub fn pop_below<N: PacketNote>(notes: &mut HeapCircularBuffer<N>, mark: u64) ->
     notes.pop_front()
 }
 
-/// Removes the notes below a position.
-pub fn drop_below<N: PacketNote>(notes: &mut HeapCircularBuffer<N>, mark: u64)
+/// Removes the notes below a position, and returns how many they were.
+pub fn drop_below<N: PacketNote>(notes: &mut HeapCircularBuffer<N>, mark: u64) -> u64
     ensures takes { TakesBelow N.place mark notes.old.items notes.new.items }
+    ensures count { result + length notes.new.items ≡ length notes.old.items }
     ensures capacity { notes.new.capacity ≡ notes.old.capacity }
 {
+    let before = notes.len();
     while let Some(_note) = pop_below(notes, mark) {}
+    (before - notes.len()) as u64
 }
 
 /// Appends the lines of the notes below a position. Out of memory the lines are unchanged.

@@ -5,8 +5,8 @@ ghost use Rattle.std.specs.Prelude.{◌≡◌, [], IfOk};
 use crate::cells::{are_counted, each_shows, given, live, one_component, packet, packet_of};
 use plug_conf::{NumberSet, PairList};
 use plug_edit::{
-    EditCat, EditCatConf, EditNit, EditNitConf, EditPat, EditPatConf, EditPmt, EditPmtConf,
-    EditSdt, EditSdtConf,
+    EditCatConf, EditNitConf, EditPatConf, EditPmtConf, EditSdtConf, new_edit_cat, new_edit_nit,
+    new_edit_pat, new_edit_pmt, new_edit_sdt,
 };
 use plugin_trait::Plugin;
 use std::alloc::{AllocError, Global};
@@ -62,7 +62,7 @@ fn with_system(alloc: Global) -> Result<Vec<Cell>, Fail> {
         new_version: None,
         increment_version: true,
     };
-    edited(alloc, EditCat::new(alloc, &conf, 1), packet)
+    edited(alloc, new_edit_cat(alloc, &conf, 1), packet)
 }
 
 /// A packet with a PMT of a component on PID 257.
@@ -89,7 +89,7 @@ fn with_a_pid_moved(alloc: Global) -> Result<Vec<Cell>, Fail> {
         new_version: None,
         increment_version: false,
     };
-    edited(alloc, EditPmt::new(alloc, &conf, 1), packet)
+    edited(alloc, new_edit_pmt(alloc, &conf, 1), packet)
 }
 
 /// Packets on the PID of a PAT that does not come, after the plugin.
@@ -102,7 +102,7 @@ fn without_a_pat(alloc: Global) -> Result<Vec<Cell>, Fail> {
         new_version: None,
         increment_version: false,
     };
-    edited(alloc, EditPat::new(alloc, &conf, 1), packet(0))
+    edited(alloc, new_edit_pat(alloc, &conf, 1), packet(0))
 }
 
 /// A packet with a NIT without descriptors and transport streams.
@@ -129,7 +129,7 @@ fn with_a_network_name(alloc: Global) -> Result<Vec<Cell>, Fail> {
         new_version: None,
         increment_version: false,
     };
-    edited(alloc, EditNit::new(alloc, &conf, 1), packet)
+    edited(alloc, new_edit_nit(alloc, &conf, 1), packet)
 }
 
 /// A packet with an SDT of version 31 without services.
@@ -160,7 +160,7 @@ fn with_a_service(alloc: Global) -> Result<Vec<Cell>, Fail> {
         new_version: None,
         increment_version: true,
     };
-    edited(alloc, EditSdt::new(alloc, &conf, 1), packet)
+    edited(alloc, new_edit_sdt(alloc, &conf, 1), packet)
 }
 
 /// Which editor: of a CAT, a PMT, a PAT that does not come, a NIT or an SDT.

@@ -4,7 +4,10 @@ ghost use Rattle.std.specs.Prelude.{◌<◌, ℕ, [], IfOk, length, slice_index}
 use crate::cells::{each_shows, given, live, packet};
 use crate::compared::{same, same_bytes};
 use plug_conf::NumberSet;
-use plug_pass::{Filter, FilterConf, Pattern, PatternConf, Skip, SkipConf, Slice, SliceConf};
+use plug_pass::{
+    Filter, FilterConf, Pattern, PatternConf, Skip, SkipConf, Slice, SliceConf, new_filter,
+    new_pattern, new_skip, new_slice,
+};
 use plugin_trait::{ListEnd, Plugin};
 use std::alloc::{AllocError, Global};
 use std::process::Abort;
@@ -66,7 +69,7 @@ fn filtered(alloc: Global, negate: bool, stuffing: bool) -> Result<(String, List
         stuffing,
         set_label: NumberSet::of(Vec::new(alloc)),
     };
-    shape(alloc, Filter::new(alloc, &conf, 1), &THREE)
+    shape(alloc, new_filter(alloc, &conf, 1), &THREE)
 }
 
 /// Checks what a plugin output, and how it ended.
@@ -77,7 +80,7 @@ fn is_shape(rt: &impl Abort, found: &(String, ListEnd), letters: &str, end: List
 
 /// What `skip` outputs for three packets where it skips one.
 fn skipped(alloc: Global) -> Result<(String, ListEnd), AllocError> {
-    shape(alloc, Skip::new(alloc, &SkipConf { operand: 1 }, 1), &THREE)
+    shape(alloc, new_skip(alloc, &SkipConf { operand: 1 }, 1), &THREE)
 }
 
 /// A slice that drops from the second packet on, passes from the fourth, makes null packets from the fifth, and stops
@@ -91,7 +94,7 @@ fn slice(alloc: Global) -> Result<Slice, AllocError>
         pass: Some(3),
         stop: Some(6),
     };
-    Slice::new(alloc, &conf, 1)
+    new_slice(alloc, &conf, 1)
 }
 
 /// What it outputs for ten packets.
@@ -183,7 +186,7 @@ fn pattern(alloc: Global) -> Result<Pattern, AllocError>
         offset_pusi: None,
         offset_non_pusi: Some(181),
     };
-    Pattern::new(alloc, &conf, 1)
+    new_pattern(alloc, &conf, 1)
 }
 
 /// A packet on PID 256 after a pattern was written up to its end.

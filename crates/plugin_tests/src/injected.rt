@@ -4,7 +4,7 @@ ghost use Rattle.plug_inject.specs.InjectSettings.{IsLawfulMode};
 
 use crate::cells::{given, one_service};
 use crate::compared::same;
-use plug_inject::{Inject, InjectConf, InjectMode};
+use plug_inject::{InjectConf, InjectMode, new_inject};
 use plugin_trait::ListEnd;
 use std::alloc::Global;
 use std::process::Abort;
@@ -33,7 +33,7 @@ fn injected(alloc: Global, mode: InjectMode, sections: Vec<Section>) -> Result<V
         pid: 0,
         mode,
     };
-    let (end, cells) = given(Inject::new(alloc, &conf, sections), cells)?;
+    let (end, cells) = given(new_inject(alloc, &conf, sections), cells)?;
     match end {
         ListEnd::Through => Ok(cells),
         _ => Err("the plugin ended its list".into()),

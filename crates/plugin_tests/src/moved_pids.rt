@@ -5,7 +5,7 @@ ghost use Rattle.std.specs.Prelude.{◌<◌, [], IfOk};
 use crate::cells::{given, live, one_component, one_service, packet, packet_of};
 use crate::compared::{holds, same};
 use plug_conf::PairList;
-use plug_move::{Remap, RemapConf};
+use plug_move::{Remap, RemapConf, new_remap};
 use plugin_trait::{ListEnd, Plugin, Reason};
 use std::alloc::{AllocError, Global};
 use std::process::Abort;
@@ -24,7 +24,7 @@ fn remap_of_two(alloc: Global, unchecked: bool) -> Result<Remap, AllocError>
         no_psi: true,
         unchecked,
     };
-    Remap::new(alloc, &conf, 1)
+    new_remap(alloc, &conf, 1)
 }
 
 /// Its output for four packets, and how it ends.
@@ -118,7 +118,7 @@ fn remap(alloc: Global) -> Result<Remap, AllocError>
         no_psi: false,
         unchecked: false,
     };
-    Remap::new(alloc, &conf, 1)
+    new_remap(alloc, &conf, 1)
 }
 
 /// Its output for cells.

@@ -5,7 +5,7 @@ ghost use Rattle.std.specs.Prelude.{[], IfOk};
 
 use crate::cells::{bytes_from, given, live};
 use crate::compared::{holds, same};
-use plug_service::{ServiceConf, Svremove, Zap};
+use plug_service::{ServiceConf, new_svremove, new_zap};
 use plugin_trait::Plugin;
 use std::alloc::{AllocError, Global};
 use std::process::Abort;
@@ -72,7 +72,7 @@ fn kept(alloc: Global) -> Result<Vec<Cell>, Fail> {
         service: 1,
         stuffing: false,
     };
-    made_of_stream(alloc, Zap::new(alloc, &conf, 1))
+    made_of_stream(alloc, new_zap(alloc, &conf, 1))
 }
 
 static KEPT_PAT: [u8; 12] = [
@@ -95,7 +95,7 @@ fn without_it(alloc: Global) -> Result<Vec<Cell>, Fail> {
         service: 1,
         stuffing: true,
     };
-    made_of_stream(alloc, Svremove::new(alloc, &conf, 1))
+    made_of_stream(alloc, new_svremove(alloc, &conf, 1))
 }
 
 static REMOVED_PAT: [u8; 12] = [

@@ -5,7 +5,7 @@ use crate::cells::counter_of;
 use crate::compared::{same, same_bytes};
 use plug_conf::NumberSet;
 use plug_watch::{Continuity, ContinuityConf, Count, CountConf};
-use plugin_trait::{Line, ListEnd, Plugin, apply_plugin, report};
+use plugin_trait::{Heard, Line, ListEnd, Plugin, apply_plugin, report};
 use std::alloc::{AllocError, Global};
 use std::process::Abort;
 use std::test::Fail;
@@ -24,6 +24,7 @@ fn packet(pid: u16, counter: u8) -> Cell
 
 /// How a plugin ends a list of cells, and its report on those of the cells that stand before the cut.
 fn run<P: Plugin + Drop>(
+    alloc: Global,
     plugin: Result<P, AllocError>,
     cells: &mut Vec<Cell>,
     cut: u64,
@@ -33,7 +34,13 @@ fn run<P: Plugin + Drop>(
 {
     let mut plugin = plugin?;
     let end = apply_plugin(&mut plugin, cells);
-    let lines = report(&mut plugin, cut.min(cells.len() as u64))?;
+    let mut heard = Heard {
+        plugin,
+        lines: Vec::new(alloc),
+    };
+    let reported = report(&mut heard, cut.min(cells.len() as u64));
+    let Heard { plugin: _, lines } = heard;
+    reported?;
     Ok((end, lines))
 }
 
@@ -73,7 +80,7 @@ fn counted(alloc: Global, all: bool, total: bool, cut: u64) -> Result<Vec<Line>,
         packet(256, 1),
         packet(258, 0),
     ]?;
-    let (_, lines) = run(counting(alloc, true, all, total, 4), &mut cells, cut)?;
+    let (_, lines) = run(alloc, counting(alloc, true, all, total, 4), &mut cells, cut)?;
     Ok(lines)
 }
 
@@ -109,7 +116,7 @@ fn count_counts_to_the_cut(rt: HostRuntime) -> Result<(), Fail> {
 fn counted_in(alloc: Global, buffer: usize) -> Result<(ListEnd, usize, Vec<Line>), AllocError> {
     let mut cells = vec![in alloc; packet(256, 0), packet(256, 1), packet(257, 0)]?;
     let count = counting(alloc, false, false, true, buffer);
-    let (end, lines) = run(count, &mut cells, 3)?;
+    let (end, lines) = run(alloc, count, &mut cells, 3)?;
     Ok((end, cells.len(), lines))
 }
 
@@ -153,7 +160,7 @@ fn fixed(alloc: Global) -> Result<(Vec<Cell>, Vec<Line>), AllocError> {
         packet(256, 8),
         packet(256, 8),
     ]?;
-    let (_, lines) = run(fixing(alloc), &mut cells, 4)?;
+    let (_, lines) = run(alloc, fixing(alloc), &mut cells, 4)?;
     Ok((cells, lines))
 }
 

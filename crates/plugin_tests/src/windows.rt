@@ -5,7 +5,7 @@ ghost use Rattle.std.specs.Prelude.{[], ◌<◌, ◌≤◌, ℕ, length, slice_i
 use crate::cells::{given, live, one_component, one_service, packet, packet_of};
 use crate::compared::{holds, same};
 use plug_psi::Referred;
-use plug_window::{Compact, Rmorphan, WindowConf};
+use plug_window::{WindowConf, new_compact, new_rmorphan};
 use std::alloc::{AllocError, Global};
 use std::process::Abort;
 use std::test::Fail;
@@ -56,7 +56,7 @@ fn compacted(alloc: Global) -> Result<Vec<Cell>, Fail> {
         stuffing: false,
     };
     let cells = cells_on(alloc, &[256, 8191, 257, 8191, 8191, 256, 8191, 8191, 8191])?;
-    Ok(given(Compact::new(alloc, &conf, 1), cells)?.1)
+    Ok(given(new_compact(alloc, &conf, 1), cells)?.1)
 }
 
 static COMPACTED: [Option<u16>; 9] = [
@@ -123,7 +123,7 @@ fn kept(alloc: Global, window: u64, stuffing: bool) -> Result<Vec<Cell>, Fail>
 {
     let conf = WindowConf { window, stuffing };
     let cells = late_tables(alloc)?;
-    Ok(given(Rmorphan::new(alloc, &conf), cells)?.1)
+    Ok(given(new_rmorphan(alloc, &conf), cells)?.1)
 }
 
 static IN_THE_WINDOW: [Option<u16>; 8] = [

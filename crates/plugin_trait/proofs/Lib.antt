@@ -2,3 +2,5 @@ pub mod Going
 pub mod FarLemmas
 pub mod AgreeingLemmas
 pub mod Saying
+pub mod Giving
+pub mod FindLemmas

@@ -1,11 +1,11 @@
 -- Lines with their positions and lines without them.
-use Rattle.std.proofs.Common.{◌≡◌, ℕ, List, [], ◌∷◌, ◌++◌, length, map, ap, sym, ◌∙◌, refl}
+use Rattle.std.proofs.Common.{◌≡◌, ℕ, List, [], ◌∷◌, ◌++◌, length, map, ap, ◌∙◌, refl}
 use Rattle.ts_packet.specs.declared.cell.Cell.{Cell}
 use Rattle.ts_packet.specs.Cells.{Live, Dropped}
 use Rattle.chain_model.specs.PluginRule.{PluginRule}
-use Rattle.chain_model.specs.Reports.{lines_after, said_of}
+use Rattle.chain_model.specs.Reports.{lines_after}
 use Rattle.plugin_trait.specs.declared.line.Line.{Line}
-use Rattle.plugin_trait.specs.PlacedLines.{placed_at, placed_after, placed_of, IsSilent}
+use Rattle.plugin_trait.specs.PlacedLines.{placed_at, placed_after, IsSilent}
 
 -- the text of a line
 abbrev pub text_of : Line → List ℕ
@@ -30,13 +30,6 @@ texts-placed_after rule history (Live packet labels ∷ cells) =
     ∙ ap (λ (texts : List (List ℕ)). rule.lines_of history packet labels ++ texts) (texts-placed_after rule (history ++ Live packet labels ∷ []) cells))
 texts-placed_after rule history (Dropped ∷ cells) = texts-placed_after rule (history ++ Dropped ∷ []) cells
 
--- the texts of all that a plugin reports
-pub texts-placed_of : (rule : PluginRule) (cells : List Cell) → map text_of (placed_of rule cells) ≡ said_of rule cells
-texts-placed_of rule cells =
-    texts-append (placed_after rule [] cells) (placed_at (length cells) (rule.summary_of cells))
-    ∙ (ap (λ (texts : List (List ℕ)). texts ++ map text_of (placed_at (length cells) (rule.summary_of cells))) (texts-placed_after rule [] cells)
-    ∙ ap (λ (texts : List (List ℕ)). lines_after rule [] cells ++ texts) (texts-placed_at (length cells) (rule.summary_of cells)))
-
 -- a silent rule has no line on any cell
 pub silent-placed_after : (rule : PluginRule) (history cells : List Cell) → IsSilent rule → placed_after rule history cells ≡ []
 silent-placed_after rule history [] silent = refl
@@ -44,9 +37,3 @@ silent-placed_after rule history (Live packet labels ∷ cells) silent =
     ap (λ (texts : List (List ℕ)). placed_at (length history) texts ++ placed_after rule (history ++ Live packet labels ∷ []) cells) (silent.no_lines history packet labels)
     ∙ silent-placed_after rule (history ++ Live packet labels ∷ []) cells silent
 silent-placed_after rule history (Dropped ∷ cells) silent = silent-placed_after rule (history ++ Dropped ∷ []) cells silent
-
--- a silent rule reports nothing
-pub silent-placed_of : (rule : PluginRule) (cells : List Cell) → IsSilent rule → [] ≡ placed_of rule cells
-silent-placed_of rule cells silent =
-    sym (ap (λ (lines : List Line). lines ++ placed_at (length cells) (rule.summary_of cells)) (silent-placed_after rule [] cells silent)
-    ∙ ap (λ (texts : List (List ℕ)). placed_at (length cells) texts) (silent.no_summary cells))

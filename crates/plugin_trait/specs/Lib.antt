@@ -6,3 +6,6 @@ pub mod Driving
 pub mod LiveCount
 pub mod SilentRule
 pub mod Fates
+pub mod Unmarked
+pub mod HeardStands
+pub mod Finding

@@ -1,5 +1,5 @@
 -- The lines that a plugin reports, each with its position. This project's own rule.
-use Rattle.std.specs.Prelude.{◌≡◌, ℕ, List, [], ◌∷◌, ◌++◌, map, length}
+use Rattle.std.specs.Prelude.{◌≡◌, ℕ, List, [], ◌∷◌, ◌++◌, map, length, take, drop}
 use Rattle.ts_packet.specs.declared.cell.Cell.{Cell}
 use Rattle.ts_packet.specs.Cells.{Live, Dropped}
 use Rattle.chain_model.specs.PluginRule.{PluginRule}
@@ -16,6 +16,10 @@ placed_after rule history (Live packet labels ∷ cells) =
     placed_at (length history) (rule.lines_of history packet labels)
     ++ placed_after rule (history ++ Live packet labels ∷ []) cells
 placed_after rule history (Dropped ∷ cells) = placed_after rule (history ++ Dropped ∷ []) cells
+
+-- the lines of a rule at the positions from one up to another, of the cells that were met
+abbrev pub placed_between : PluginRule → List Cell → ℕ → ℕ → List Line
+placed_between rule history from to = placed_after rule (take from history) (drop from (take to history))
 
 -- all that a plugin reports of the cells that count: its lines, then its summary at their end
 abbrev pub placed_of : PluginRule → List Cell → List Line

@@ -12,6 +12,7 @@ silent_rule_with outcome labels = record {
   lines_of = λ _ _ _. [];
   summary_of = λ _. [];
   agrees = λ _. false;
+  has_fault = λ _. false;
 }
 
 -- the silent rule that ignores labels and leaves them as they are

@@ -42,6 +42,15 @@ StepTells rule history cell (Refuse reason) left =
     (became rule history cell ≡ ends_before (refused reason)) × (left ≡ cell)
 StepTells rule history cell NoMemory left = left ≡ cell
 
+-- the cell that is left where a packet with its labels was: none where it was dropped
+abbrev pub left_of : Outcome → List ℕ → ℕ → Cell
+left_of Drop packet labels = Dropped
+left_of Pass packet labels = Live packet labels
+left_of Last packet labels = Live packet labels
+left_of Stop packet labels = Live packet labels
+left_of (Refuse reason) packet labels = Live packet labels
+left_of NoMemory packet labels = Live packet labels
+
 -- the cells met after a step: with this one, unless the list ended before it
 abbrev pub met_after : Outcome → List Cell → Cell → List Cell
 met_after Pass history cell = history ++ cell ∷ []

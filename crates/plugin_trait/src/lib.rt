@@ -3,18 +3,24 @@
 #![tactic(auto)]
 
 mod driver;
+mod first_find;
+mod heard;
 mod line;
 mod line_text;
 mod list_end;
 mod outcome;
 mod plugin;
-mod reporting;
+mod silent;
+mod steps;
 
 pub use chain_model::Reason;
 pub use driver::apply_plugin;
+pub use first_find::FirstFind;
+pub use heard::{Heard, report};
 pub use line::Line;
 pub use line_text::LineText;
 pub use list_end::{Applied, ListEnd};
 pub use outcome::Outcome;
 pub use plugin::Plugin;
-pub use reporting::{report, silent_report};
+pub use silent::Silent;
+pub use steps::Steps;

@@ -3,7 +3,7 @@
 use crate::driver::note_agreement;
 use crate::{Applied, Line, ListEnd, Outcome};
 use std::alloc::AllocError;
-use ts_packet::Cell;
+use ts_packet::{Cell, Labels, Packet};
 
 /// A plugin of the chain. It means a rule, a function of the whole history of the cells that it met.
 ///
@@ -11,17 +11,17 @@ use ts_packet::Cell;
 /// it was given. It is a relation, since the value keeps less than the list: a call asks for one list
 /// and mark that the value stands for, and what it promises holds for each.
 pub trait Plugin {
-    ghost use Rattle.std.specs.Prelude.{◌≡◌, ◌≢◌, ◌<◌, ◌+◌, ◌≤◌, ℕ, List, [], ◌++◌, Bool, true, false, Option, Some, IsOk, IfOk, IsSome, is_some, take, drop, length};
+    ghost use Rattle.std.specs.Prelude.{◌≡◌, ◌≢◌, ◌<◌, ◌+◌, ◌≤◌, ℕ, List, [], ◌++◌, Bool, true, false, Option, Some, IsOk, OnOk, IsSome, is_some, take, drop, length};
     ghost use Rattle.ts_packet.specs.declared.cell.Cell.{Cell};
-    ghost use Rattle.ts_packet.specs.Cells.{Dropped};
+    ghost use Rattle.ts_packet.specs.Cells.{Live, Dropped};
     ghost use Rattle.chain_model.specs.declared.positions.TheConstants.{POSITION_LIMIT};
     ghost use Rattle.chain_model.specs.Apply.{apply_after};
     ghost use Rattle.chain_model.specs.Joint.{agreement_of};
     ghost use Rattle.chain_model.specs.PluginRule.{PluginRule};
     ghost use Rattle.plugin_trait.specs.Driving.{Makes, made_so_far, TellsAgreement, HasRoomFor};
-    ghost use Rattle.plugin_trait.specs.Steps.{MeetsCells, MeetsSome, Tells, Meets, HasRoom};
-    ghost use Rattle.plugin_trait.specs.Marks.{AllowsMark, Notes};
-    ghost use Rattle.plugin_trait.specs.PlacedLines.{placed_of};
+    ghost use Rattle.plugin_trait.specs.Steps.{MeetsCells, MeetsSome, Tells, Meets, HasRoom, left_of};
+    ghost use Rattle.plugin_trait.specs.Marks.{AllowsMark, GivesLines};
+    ghost use Rattle.plugin_trait.specs.PlacedLines.{placed_at};
 
     /// The rule that the plugin means. No call changes it.
     ghost rule: { Self → PluginRule };
@@ -33,14 +33,37 @@ pub trait Plugin {
     /// the greatest mark. No call changes it.
     ghost steady: { Self → Option ℕ };
 
-    /// It has nothing to report, and `finish` needs no memory. No call changes it.
+    /// It has nothing to report, and no report needs memory. No call changes it.
     ghost silent: { Self → Bool } = { λ _. false };
 
-    /// Takes the cell at a position, and leaves in it what the plugin makes of it.
+    /// Takes the packet at a position with its labels, and leaves in them what the plugin makes of them.
     ///
-    /// The outcome is the rule's, or `NoMemory` on a live cell. After `Stop`, `Refuse` and `NoMemory`
-    /// the cell is as it was, and the plugin stands for what it stood for.
-    fn step(&mut self, at: u64, cell: &mut Cell) -> Outcome
+    /// The outcome is the rule's, or `NoMemory`. After `Stop`, `Refuse` and `NoMemory` the packet and its labels are as
+    /// they were, and the plugin stands for what it stood for. After `Drop` nobody looks at them again.
+    fn step(&mut self, at: u64, packet: &mut Packet, labels: &mut Labels) -> Outcome
+        requires met { MeetsCells (stands_for self.old) at }
+        requires in_range { at < POSITION_LIMIT }
+        ensures tells { Tells (rule self.old) (stands_for self.old) at (Live packet.old labels.old) result
+            (left_of result packet.new labels.new) }
+        ensures meets { Meets (stands_for self.old) (stands_for self.new) at (Live packet.old labels.old) result }
+        ensures same_rule { rule self.new ≡ rule self.old }
+        ensures same_steady { steady self.new ≡ steady self.old }
+        ensures same_silent { silent self.new ≡ silent self.old }
+        ensures room { HasRoom (steady self.old) (stands_for self.old) at → result ≢ Outcome.NoMemory };
+
+    /// Meets a position whose packet was dropped before.
+    fn pass_over(&mut self, at: u64)
+        requires met { MeetsCells (stands_for self.old) at }
+        requires in_range { at < POSITION_LIMIT }
+        ensures meets { Meets (stands_for self.old) (stands_for self.new) at Dropped Outcome.Pass }
+        ensures same_rule { rule self.new ≡ rule self.old }
+        ensures same_steady { steady self.new ≡ steady self.old }
+        ensures same_silent { silent self.new ≡ silent self.old };
+
+    /// Takes the cell at a position, and leaves in it what the plugin makes of it: by a step where it has a packet.
+    // Inlined always: otherwise the loop of `steps` has a call for each cell.
+    #[inline(always)]
+    fn meet(&mut self, at: u64, cell: &mut Cell) -> Outcome
         requires met { MeetsCells (stands_for self.old) at }
         requires in_range { at < POSITION_LIMIT }
         ensures tells { Tells (rule self.old) (stands_for self.old) at cell.old result cell.new }
@@ -49,7 +72,18 @@ pub trait Plugin {
         ensures same_rule { rule self.new ≡ rule self.old }
         ensures same_steady { steady self.new ≡ steady self.old }
         ensures same_silent { silent self.new ≡ silent self.old }
-        ensures room { HasRoom (steady self.old) (stands_for self.old) at → result ≢ Outcome.NoMemory };
+        ensures room { HasRoom (steady self.old) (stands_for self.old) at → result ≢ Outcome.NoMemory }
+    {
+        let Some(live) = cell.live_mut() else {
+            self.pass_over(at);
+            return Outcome::Pass;
+        };
+        let outcome = self.step(at, &mut live.packet, &mut live.labels);
+        if outcome == Outcome::Drop {
+            cell.drop_packet();
+        }
+        outcome
+    }
 
     /// Takes the cells from a position on, in place, until the plugin ends its list.
     ///
@@ -84,7 +118,7 @@ pub trait Plugin {
     {
         let mut agreed = None;
         for (i, cell) in cells.iter_mut().enumerate() {
-            let end = match self.step(at + i as u64, cell) {
+            let end = match self.meet(at + i as u64, cell) {
                 Outcome::Pass | Outcome::Drop => {
                     let agrees = self.agreed();
                     agreed = agreed.or(note_agreement(agrees, noted, at + i as u64 + 1));
@@ -116,15 +150,18 @@ pub trait Plugin {
         }
     }
 
-    /// Receives a mark: the positions below it are written, so that notes on them may be folded.
-    /// No mark is less than the one before it, and none exceeds the number of cells that were met.
-    fn note(&mut self, written: u64) -> Result<(), AllocError>
+    /// Receives a mark: the positions below it are written. Appends the lines from the mark before it up to this one, and
+    /// may fold the notes below it. No mark is less than the one before it, and none exceeds the number of cells that
+    /// were met.
+    fn note(&mut self, written: u64, lines: &mut Vec<Line>) -> Result<(), AllocError>
         requires { AllowsMark (stands_for self.old) written }
-        ensures notes { Notes (stands_for self.old) (stands_for self.new) written result }
+        ensures gives { GivesLines (rule self.old) (stands_for self.old) (stands_for self.new) written
+            lines.old.items lines.new.items result }
         ensures same_rule { rule self.new ≡ rule self.old }
         ensures same_steady { steady self.new ≡ steady self.old }
         ensures same_silent { silent self.new ≡ silent self.old }
-        ensures room { IsSome (steady self.old) → IsOk result };
+        ensures room { IsSome (steady self.old) → IsOk result }
+        ensures silent { silent self.old ≡ true → IsOk result };
 
     /// Whether the plugin uses joint termination and agrees to end after the cells that it met.
     fn agreed(&self) -> bool
@@ -132,14 +169,20 @@ pub trait Plugin {
         ensures { (history : List Cell) (mark : ℕ) → stands_for self.now history mark
             → result ≡ (rule self.now).agrees history };
 
-    /// Returns the lines on the first `cut` cells that were met, and the summary over them, whose lines
-    /// have the position `cut`. It is called once, with a cut that is no less than the greatest mark.
-    fn finish(&mut self, cut: u64) -> Result<Vec<Line>, AllocError>
-        requires { AllowsMark (stands_for self.old) cut }
-        ensures said { (history : List Cell) (mark : ℕ) → stands_for self.old history mark → mark ≤ cut
-            → cut ≤ length history
-            → IfOk result (λ lines. lines.items ≡ placed_of (rule self.old) (take cut history)) }
-        ensures silent { silent self.old ≡ true → IsOk result };
+    /// Appends the summary over the positions below the mark, as lines at a position.
+    fn summary(&self, at: u64, lines: &mut Vec<Line>) -> Result<(), AllocError>
+        requires { MeetsSome (stands_for self.now) }
+        ensures said { (history : List Cell) (mark : ℕ) → stands_for self.now history mark
+            → OnOk result (lines.new.items
+            ≡ lines.old.items ++ placed_at at ((rule self.now).summary_of (take mark history))) }
+        ensures silent { silent self.now ≡ true → IsOk result };
+
+    /// Whether a run that is cut at the greatest mark, which is `cut`, has a fault: one that the plugin reports, or that
+    /// it found nothing to do.
+    fn has_fault(&self, cut: u64) -> bool
+        requires { MeetsSome (stands_for self.now) }
+        ensures { (history : List Cell) → stands_for self.now history cut
+            → result ≡ (rule self.now).has_fault (take cut history) };
 
     /// No plugin agrees before it met a cell.
     ghost starts_open: { (plugin : Self) (history : List Cell) (mark : ℕ) → stands_for plugin history mark

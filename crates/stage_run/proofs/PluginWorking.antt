@@ -10,6 +10,7 @@ use Rattle.chain_model.specs.Joint.{agreement_of}
 use Rattle.chain_model.proofs.ApplyLaws.{apply-ended, apply-last}
 use Rattle.chain_model.proofs.PrefixLemmas.{IsPrefix-apply}
 use Rattle.plugin_trait.specs.Driving.{Makes, end_of_window, made_so_far, TellsAgreement, newly_agreed}
+use Rattle.plugin_trait.specs.HeardStands.{HeardStands}
 use Rattle.plugin_trait.specs.Steps.{IsSteadyFor}
 use Rattle.plugin_trait.specs.declared.list_end.ListEnd.{ListEnd}
 use Rattle.plugin_trait.specs.declared.list_end.ListEnd.TheVariants.{Through}
@@ -213,16 +214,16 @@ plugin_work done agreed end news now = record { done = done; word = record { agr
 
 module _ {P : Type 0} (rule_at : P → PluginRule) (stands : P → List Cell → ℕ → Type 0) where
   pub plugin_works : (old new : PluginStage P) (lists : PartLists) (news : News) (cells cells_new : List Cell) (at written done : ℕ) (agreed : Option ℕ) (end : ListEnd)
-      → MayWork (PluginStands rule_at stands old) at written lists → rule_at new.plugin ≡ rule_at old.plugin
+      → MayWork (PluginStands rule_at stands old) at written lists → rule_at new.heard.plugin ≡ rule_at old.heard.plugin
       → length cells_new ≡ length cells → done ≤ length cells
-      → Makes (apply_after (rule_at old.plugin) lists.met cells) (take done cells_new) end
-      → apply_after (rule_at old.plugin) lists.met (take done cells) ≡ made_so_far (take done cells_new) end
-      → (mark : ℕ) → stands new.plugin (lists.met ++ take done cells) mark → mark ≤ written
+      → Makes (apply_after (rule_at old.heard.plugin) lists.met cells) (take done cells_new) end
+      → apply_after (rule_at old.heard.plugin) lists.met (take done cells) ≡ made_so_far (take done cells_new) end
+      → (mark : ℕ) → HeardStands rule_at stands new.heard (lists.met ++ take done cells) mark → mark ≤ written
       → (0 < length cells → (end ≡ window.NoMemory → ⊥) → mark ≡ news.written)
-      → TellsAgreement (rule_at old.plugin) (lists.met ++ take done cells) at agreed new.agreed
-      → Works (PluginStands rule_at stands new) (PluginWorks (rule_at old.plugin) lists news cells cells_new (plugin_work done agreed end news (at + done))) lists written cells cells_new (plugin_work done agreed end news (at + done))
+      → TellsAgreement (rule_at old.heard.plugin) (lists.met ++ take done cells) at agreed new.agreed
+      → Works (PluginStands rule_at stands new) (PluginWorks (rule_at old.heard.plugin) lists news cells cells_new (plugin_work done agreed end news (at + done))) lists written cells cells_new (plugin_work done agreed end news (at + done))
   plugin_works old new lists news cells cells_new at written done agreed end may same_rule long few makes far mark holds below marked tells =
-      let rule : PluginRule = rule_at old.plugin in
+      let rule : PluginRule = rule_at old.heard.plugin in
       let was : PluginStands rule_at stands old lists None = may.goes_on in
       let made : List Cell = take done cells_new in
       let met : List Cell = lists.met ++ take done cells in
@@ -240,7 +241,7 @@ module _ {P : Type 0} (rule_at : P → PluginRule) (stands : P → List Cell →
         after = lists_met lists (take done cells) made mark;
         behind = record { met = refl; given = refl; read = ([], sym (append-nil lists.read)); source = refl; sink = refl; mark = below };
         stands = record {
-          plugin = holds;
+          heard = holds;
           given = sym (ap (λ (l : StageList). l.cells) all) ∙ ap (λ (r : PluginRule). (apply r met).cells) (sym same_rule);
           length_same = omega (arith, length-append lists.given made, length-append lists.met (take done cells));
           ended = ap (λ (r : PluginRule). (apply r met).ended) same_rule ∙ ap (λ (l : StageList). l.ended) all ∙ end_same end news (at + done);

@@ -33,13 +33,13 @@ kind_of (Output stage) = an_output
 -- the rule by which a part makes its list of the cells that it meets: an output passes everything
 abbrev pub rule_of : {S K P : Type 0} → Seeing S K P → StagePart S K P → PluginRule
 rule_of see (Input stage) = passing_rule
-rule_of see (Plugin stage) = see.rule stage.plugin
+rule_of see (Plugin stage) = see.rule stage.heard.plugin
 rule_of see (Output stage) = passing_rule
 
 -- where it is a number, a plugin made room before the run for notes on so many positions after its mark
 abbrev pub steady_of : {S K P : Type 0} → Seeing S K P → StagePart S K P → Option ℕ
 steady_of see (Input stage) = None
-steady_of see (Plugin stage) = see.steady stage.plugin
+steady_of see (Plugin stage) = see.steady stage.heard.plugin
 steady_of see (Output stage) = None
 
 -- the stuffing of an input
@@ -94,7 +94,7 @@ PartGives see (Output stage) lists input = Unit {0}
 -- a stage that works on so many positions after the mark may run out of memory: a plugin's, where no room was made for them
 abbrev pub MayWantMemory : {S K P : Type 0} → Seeing S K P → StagePart S K P → ℕ → Type 0
 MayWantMemory see (Input stage) ahead = ⊥
-MayWantMemory see (Plugin stage) ahead = IsSteadyFor (see.steady stage.plugin) ahead → ⊥
+MayWantMemory see (Plugin stage) ahead = IsSteadyFor (see.steady stage.heard.plugin) ahead → ⊥
 MayWantMemory see (Output stage) ahead = ⊥
 
 -- a part that stands for these lists, and has not ended, may work after its first `at` cells with this mark

@@ -4,6 +4,7 @@ use Rattle.ts_packet.specs.declared.cell.Cell.{Cell}
 use Rattle.chain_model.specs.PluginRule.{PluginRule}
 use Rattle.chain_model.specs.Apply.{OwnEnd, last_passed, apply}
 use Rattle.chain_model.specs.Joint.{agreement_of}
+use Rattle.plugin_trait.specs.HeardStands.{HeardStands}
 use Rattle.chain_core.specs.declared.stage_end.StageEnd.{StageEnd}
 use Rattle.chain_core.specs.declared.stage_end.StageEnd.TheVariants.{Last}
 use Rattle.stage_run.specs.declared.plugin_stage.PluginStage.{PluginStage}
@@ -14,12 +15,12 @@ abbrev pub end_behind_met : Option StageEnd → Option OwnEnd
 end_behind_met (Some Last) = Some last_passed
 end_behind_met _ = None
 
--- the plugin met and gave these lists, and reported this end
+-- the plugin met and gave these lists, reported this end, and has the lines of the cells below its mark
 pub record PluginStands {P : Type 0} (rule : P → PluginRule) (stands : P → List Cell → ℕ → Type 0)
     (stage : PluginStage P) (lists : PartLists) (told : Option StageEnd) : Type 0 where
-  pub plugin : stands stage.plugin lists.met lists.mark
+  pub heard : HeardStands rule stands stage.heard lists.met lists.mark
   -- what was given is the plugin's image of what was met, cell by cell
-  pub given : lists.given ≡ (apply (rule stage.plugin) lists.met).cells
+  pub given : lists.given ≡ (apply (rule stage.heard.plugin) lists.met).cells
   pub length_same : length lists.given ≡ length lists.met
-  pub ended : (apply (rule stage.plugin) lists.met).ended ≡ end_behind_met told
-  pub agreed : stage.agreed ≡ is_some (agreement_of (rule stage.plugin) lists.met)
+  pub ended : (apply (rule stage.heard.plugin) lists.met).ended ≡ end_behind_met told
+  pub agreed : stage.agreed ≡ is_some (agreement_of (rule stage.heard.plugin) lists.met)

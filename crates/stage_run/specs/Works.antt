@@ -142,7 +142,7 @@ abbrev pub WorksByKind : {S K P : Type 0} → Seeing S K P → StagePart S K P �
 WorksByKind see (part.Input old) (part.Input new) before news cells cells_new work after =
     InputWorks see.source old new before news cells cells_new work after
 WorksByKind see (part.Plugin old) (part.Plugin new) before news cells cells_new work after =
-    PluginWorks (see.rule old.plugin) before news cells cells_new work after
+    PluginWorks (see.rule old.heard.plugin) before news cells cells_new work after
 WorksByKind see (part.Output old) (part.Output new) before news cells cells_new work after =
     OutputWorks see.sink old new before news cells cells_new work after
 WorksByKind see _ _ before news cells cells_new work after = ⊥
@@ -195,8 +195,8 @@ abbrev pub PluginWork : {P : Type 0} → (P → PluginRule) → (P → List Cell
     → PluginStage P → PluginStage P → ℕ → News → List Cell → List Cell → Work → Type 0
 PluginWork rule stands steady old new at news cells cells_new work =
     StageWork (PluginStands rule stands old) (PluginStands rule stands new)
-    (λ ahead. IsSteadyFor (steady old.plugin) ahead → ⊥) DoesAll
-    (λ before. PluginWorks (rule old.plugin) before news cells cells_new work) at news cells cells_new work
+    (λ ahead. IsSteadyFor (steady old.heard.plugin) ahead → ⊥) DoesAll
+    (λ before. PluginWorks (rule old.heard.plugin) before news cells cells_new work) at news cells cells_new work
 
 -- the work of an output: it does not run out of memory
 abbrev pub OutputWork : {K : Type 0} → (K → SinkView) → OutputStage K → OutputStage K

@@ -6,13 +6,13 @@ ghost use Rattle.stage_run.specs.PluginSteps.{told_by};
 use crate::Work;
 use crate::telling::followed;
 use chain_core::{News, StageEnd, StageWord};
-use plugin_trait::{Applied, ListEnd, Plugin};
+use plugin_trait::{Applied, Heard, ListEnd, Plugin};
 use ts_outside::Gate;
 use ts_packet::Cell;
 
-/// A plugin, and whether its agreement was reported.
+/// A plugin with the lines that it gave out, and whether its agreement was reported.
 pub struct PluginStage<P> {
-    pub(crate) plugin: P,
+    pub(crate) heard: Heard<P>,
     pub(crate) agreed: bool,
 }
 
@@ -39,6 +39,7 @@ impl<P: Plugin> PluginStage<P> {
     ghost use Rattle.ts_outside.specs.Source.{SourceView};
     ghost use Rattle.ts_outside.specs.Sink.{SinkView};
     ghost use Rattle.plugin_trait.specs.Steps.{MeetsCells, IsSteadyFor};
+    ghost use Rattle.plugin_trait.specs.HeardStands.{HeardStands};
     ghost use Rattle.plugin_trait.specs.Driving.{Makes, made_so_far, TellsAgreement};
     ghost use Rattle.stage_run.specs.PluginSteps.{Allows, MayPass, StandsTold};
     ghost use Rattle.stage_run.specs.PartLists.{PartLists, fresh_lists};
@@ -46,64 +47,66 @@ impl<P: Plugin> PluginStage<P> {
     ghost use Rattle.stage_run.specs.PartStands.{MayWork, MayWorkOnSome};
     ghost use Rattle.stage_run.specs.Works.{PluginWork};
 
-    /// A plugin that met no cell yet.
-    pub(crate) fn of(plugin: P) -> Self
-        requires { MeetsCells (P.stands_for plugin) 0 }
-        ensures rule { P.rule result.plugin ≡ P.rule plugin }
-        ensures steady { P.steady result.plugin ≡ P.steady plugin }
-        ensures stands { (source : SourceView) (sink : SinkView) (mark : ℕ) → P.stands_for plugin [] mark
+    /// A plugin that met no cell yet, and has no lines.
+    pub(crate) fn of(heard: Heard<P>) -> Self
+        requires { MeetsCells (HeardStands P.rule P.stands_for heard) 0 }
+        ensures rule { P.rule result.heard.plugin ≡ P.rule heard.plugin }
+        ensures steady { P.steady result.heard.plugin ≡ P.steady heard.plugin }
+        ensures stands { (source : SourceView) (sink : SinkView) (mark : ℕ)
+            → HeardStands P.rule P.stands_for heard [] mark
             → PluginStands P.rule P.stands_for result (fresh_lists source sink mark) None }
     {
         PluginStage {
-            plugin,
+            heard,
             agreed: false,
         }
     }
 
-    /// Returns the plugin.
-    pub(crate) fn into_plugin(self) -> P
-        ensures { result ≡ self.plugin }
+    /// Returns the plugin with its lines.
+    pub(crate) fn into_plugin(self) -> Heard<P>
+        ensures { result ≡ self.heard }
     {
-        let PluginStage { plugin, agreed: _ } = self;
-        plugin
+        let PluginStage { heard, agreed: _ } = self;
+        heard
     }
 
-    /// Gives the plugin the mark and takes it over the cells.
+    /// Gives the plugin the mark, keeps the lines up to it, and takes the plugin over the cells.
     fn pass(&mut self, at: u64, cells: &mut [Cell], written: u64) -> Applied
-        requires may { MayPass (P.stands_for self.old.plugin) at written }
+        requires may { MayPass (HeardStands P.rule P.stands_for self.old.heard) at written }
         requires in_range { at + length cells.old ≤ POSITION_LIMIT }
         ensures count { result.count ≤ length cells.old }
         ensures rest { drop result.count cells.new ≡ drop result.count cells.old }
         ensures makes { (history : List Cell) (mark : ℕ)
-            → Allows (P.stands_for self.old.plugin) at written history mark
-            → Makes (apply_after (P.rule self.old.plugin) history cells.old)
+            → Allows (HeardStands P.rule P.stands_for self.old.heard) at written history mark
+            → Makes (apply_after (P.rule self.old.heard.plugin) history cells.old)
             (take result.count cells.new) result.end }
         ensures far { (history : List Cell) (mark : ℕ)
-            → Allows (P.stands_for self.old.plugin) at written history mark
-            → apply_after (P.rule self.old.plugin) history (take result.count cells.old)
+            → Allows (HeardStands P.rule P.stands_for self.old.heard) at written history mark
+            → apply_after (P.rule self.old.heard.plugin) history (take result.count cells.old)
             ≡ made_so_far (take result.count cells.new) result.end }
         ensures met { (history : List Cell) (mark : ℕ)
-            → Allows (P.stands_for self.old.plugin) at written history mark
-            → StandsTold (P.stands_for self.new.plugin) (history ++ take result.count cells.old)
-            written result.end }
+            → Allows (HeardStands P.rule P.stands_for self.old.heard) at written history mark
+            → StandsTold (HeardStands P.rule P.stands_for self.new.heard)
+            (history ++ take result.count cells.old) written result.end }
         ensures agreed { (history : List Cell) (mark : ℕ)
-            → Allows (P.stands_for self.old.plugin) at written history mark
-            → self.old.agreed ≡ is_some (agreement_of (P.rule self.old.plugin) history)
-            → TellsAgreement (P.rule self.old.plugin) (history ++ take result.count cells.old)
+            → Allows (HeardStands P.rule P.stands_for self.old.heard) at written history mark
+            → self.old.agreed ≡ is_some (agreement_of (P.rule self.old.heard.plugin) history)
+            → TellsAgreement (P.rule self.old.heard.plugin) (history ++ take result.count cells.old)
             at result.agreed self.new.agreed }
-        ensures same_rule { P.rule self.new.plugin ≡ P.rule self.old.plugin }
-        ensures same_steady { P.steady self.new.plugin ≡ P.steady self.old.plugin }
-        ensures room { IsSteadyFor (P.steady self.old.plugin) (at + length cells.old - written)
+        ensures same_rule { P.rule self.new.heard.plugin ≡ P.rule self.old.heard.plugin }
+        ensures same_steady { P.steady self.new.heard.plugin ≡ P.steady self.old.heard.plugin }
+        ensures room { IsSteadyFor (P.steady self.old.heard.plugin) (at + length cells.old - written)
             → result.end ≢ ListEnd.NoMemory }
     {
-        if self.plugin.note(written).is_err() {
+        let heard = &mut self.heard;
+        if heard.plugin.note(written, &mut heard.lines).is_err() {
             return Applied {
                 count: 0,
                 agreed: None,
                 end: ListEnd::NoMemory,
             };
         }
-        self.plugin.steps(at, cells, &mut self.agreed)
+        heard.plugin.steps(at, cells, &mut self.agreed)
     }
 
     /// Gives the plugin the mark and takes it over all cells, between the two calls of the gate.
@@ -119,8 +122,8 @@ impl<P: Plugin> PluginStage<P> {
         requires written { news.now.written ≤ at }
         requires in_hand { at + length cells.old ≤ news.now.taken }
         requires in_range { at + length cells.old ≤ POSITION_LIMIT }
-        ensures same_rule { P.rule self.new.plugin ≡ P.rule self.old.plugin }
-        ensures same_steady { P.steady self.new.plugin ≡ P.steady self.old.plugin }
+        ensures same_rule { P.rule self.new.heard.plugin ≡ P.rule self.old.heard.plugin }
+        ensures same_steady { P.steady self.new.heard.plugin ≡ P.steady self.old.heard.plugin }
         ensures work { PluginWork P.rule P.stands_for P.steady self.old self.new
             at news.now cells.old cells.new result }
     {

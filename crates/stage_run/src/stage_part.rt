@@ -4,7 +4,7 @@ use crate::{
     InputPart, InputStage, IoBuffer, OutputPart, OutputStage, PluginStage, Stuffing, Work,
 };
 use chain_core::News;
-use plugin_trait::Plugin;
+use plugin_trait::{Heard, Plugin};
 use ts_outside::{Gate, Sink, Source};
 use ts_packet::Cell;
 
@@ -27,6 +27,7 @@ impl<S: Source, K: Sink, P: Plugin> StagePart<S, K, P> {
     ghost use Rattle.ts_outside.specs.Source.{SourceView};
     ghost use Rattle.ts_outside.specs.Sink.{SinkView};
     ghost use Rattle.plugin_trait.specs.Steps.{MeetsCells};
+    ghost use Rattle.plugin_trait.specs.HeardStands.{HeardStands};
     ghost use Rattle.stage_run.specs.Seeing.{seeing};
     ghost use Rattle.stage_run.specs.PartLists.{PartLists, fresh_lists};
     ghost use Rattle.stage_run.specs.InputStands.{stuffing_of};
@@ -51,18 +52,19 @@ impl<S: Source, K: Sink, P: Plugin> StagePart<S, K, P> {
         StagePart::Input(InputStage::of(part, stuffing, room))
     }
 
-    /// A plugin's stage. The plugin met no cell yet.
-    pub fn of_plugin(plugin: P) -> Self
-        requires { MeetsCells (P.stands_for plugin) 0 }
+    /// A plugin's stage. The plugin met no cell yet, and has no lines.
+    pub fn of_plugin(heard: Heard<P>) -> Self
+        requires { MeetsCells (HeardStands P.rule P.stands_for heard) 0 }
         ensures kind { kind_of result ≡ a_plugin }
-        ensures rule { rule_of (seeing S.seen K.seen P.rule P.stands_for P.steady) result ≡ P.rule plugin }
+        ensures rule { rule_of (seeing S.seen K.seen P.rule P.stands_for P.steady) result ≡ P.rule heard.plugin }
         ensures steady { steady_of (seeing S.seen K.seen P.rule P.stands_for P.steady) result
-            ≡ P.steady plugin }
-        ensures stands { (source : SourceView) (sink : SinkView) (mark : ℕ) → P.stands_for plugin [] mark
+            ≡ P.steady heard.plugin }
+        ensures stands { (source : SourceView) (sink : SinkView) (mark : ℕ)
+            → HeardStands P.rule P.stands_for heard [] mark
             → PartStands (seeing S.seen K.seen P.rule P.stands_for P.steady) result
             (fresh_lists source sink mark) None }
     {
-        StagePart::Plugin(PluginStage::of(plugin))
+        StagePart::Plugin(PluginStage::of(heard))
     }
 
     /// The output's stage. It gathers what it writes in the buffer. Nothing was written yet.
@@ -94,13 +96,13 @@ impl<S: Source, K: Sink, P: Plugin> StagePart<S, K, P> {
         }
     }
 
-    /// Returns the plugin.
-    pub fn into_plugin(self) -> P
+    /// Returns the plugin with the lines that it gave out.
+    pub fn into_plugin(self) -> Heard<P>
         requires { kind_of self ≡ a_plugin }
-        ensures rule { P.rule result ≡ rule_of (seeing S.seen K.seen P.rule P.stands_for P.steady) self }
+        ensures rule { P.rule result.plugin ≡ rule_of (seeing S.seen K.seen P.rule P.stands_for P.steady) self }
         ensures stands { (lists : PartLists) (told : Option StageEnd)
             → PartStands (seeing S.seen K.seen P.rule P.stands_for P.steady) self lists told
-            → P.stands_for result lists.met lists.mark }
+            → HeardStands P.rule P.stands_for result lists.met lists.mark }
     {
         match self {
             StagePart::Plugin(stage) => stage.into_plugin(),

@@ -2,6 +2,8 @@
 ghost use Rattle.std.specs.Prelude.{◌≡◌, ◌≤◌, ◌<◌, ◌+◌, ◌++◌, ℕ, List, [], length, vec_len, vec_capacity, IfOk, OnErr, IsOk};
 ghost use Rattle.chain_core.specs.declared.core_plan.CorePlan.{CorePlan};
 ghost use Rattle.chain_core.specs.CoreNumbers.{IsLawfulPlan};
+ghost use Rattle.plugin_trait.specs.HeardStands.{HeardStands};
+ghost use Rattle.plugin_trait.specs.declared.heard.Heard.{Heard};
 ghost use Rattle.stage_run.specs.Seeing.{seeing};
 ghost use Rattle.stage_run.specs.declared.input_part.InputPart.{InputPart};
 ghost use Rattle.stage_run.specs.declared.output_part.OutputPart.{OutputPart};
@@ -23,7 +25,7 @@ use crate::{Stage, drive_all};
 use atomic_table::Seat;
 use chain_core::CorePlan;
 use chain_run::{GivenBack, RunEnd, StageRooms, Stages, any_run, lay_stages, take_apart};
-use plugin_trait::Plugin;
+use plugin_trait::{Heard, Plugin};
 use stage_run::{InputPart, IoBuffer, OutputPart, StagePart, Stuffing};
 use std::alloc::{AllocError, Global};
 use std::marker::{Send, Sync};
@@ -153,7 +155,7 @@ pub fn end_run<S: Source, K: Sink, P: Plugin>(
     root: Seat<State, View>,
     seats: Vec<StageSeat>,
     parts: Vec<StagePart<S, K, P>>,
-    plugins: Vec<P>,
+    plugins: Vec<Heard<P>>,
 ) -> RunEnd<S, K, P>
     requires ended { (begun : RunStart S K) × ((key_of ring).plan ≡ begun.plan)
         × AllHaveEnded (seeing S.seen K.seen P.rule P.stands_for P.steady) begun (key_of ring).base (table_of ring)
@@ -164,7 +166,7 @@ pub fn end_run<S: Source, K: Sink, P: Plugin>(
     requires root { (made : ℕ) × (root.me ≡ (root_view (key_of ring) made [], [])) }
     requires none { plugins.items ≡ [] }
     requires room { vec_len parts ≤ vec_capacity plugins + 2 }
-    ensures runs { (from : InputPart S) (stuffing : Stuffing) (met_none : List P) (to : OutputPart K)
+    ensures runs { (from : InputPart S) (stuffing : Stuffing) (met_none : List (Heard P)) (to : OutputPart K)
         (plan : CorePlan)
         → let see = seeing S.seen K.seen P.rule P.stands_for P.steady in
         (key_of ring).plan ≡ plan
@@ -198,7 +200,7 @@ fn run_laid<R: Threads + Wait + Sync, S: Source + Send, K: Sink + Send, P: Plugi
     new: NewRing,
     mut parts: Vec<StagePart<S, K, P>>,
     stages: Vec<Stage<S, K, P>>,
-    plugins: Vec<P>,
+    plugins: Vec<Heard<P>>,
     gate: &G,
 ) -> RunEnd<S, K, P>
     requires runs { (begun : RunStart S K)
@@ -207,7 +209,7 @@ fn run_laid<R: Threads + Wait + Sync, S: Source + Send, K: Sink + Send, P: Plugi
     requires no_stage { stages.items ≡ [] }
     requires room { vec_len parts ≤ vec_capacity plugins + 2 }
     requires stages { vec_len parts ≤ vec_capacity stages }
-    ensures runs { (from : InputPart S) (stuffing : Stuffing) (met_none : List P) (to : OutputPart K)
+    ensures runs { (from : InputPart S) (stuffing : Stuffing) (met_none : List (Heard P)) (to : OutputPart K)
         (plan : CorePlan)
         → let see = seeing S.seen K.seen P.rule P.stands_for P.steady in
         IsNewRow see (began_with see from stuffing met_none to plan) parts.items → IsNew plan new
@@ -240,7 +242,7 @@ pub fn run_threads<
     requires unused { IsUnused stages.input }
     requires lawful { IsLawfulPlan plan.now }
     requires plugins { plan.now.plugins ≡ vec_len stages.plugins }
-    requires fresh { AreFresh P.stands_for stages.plugins.items }
+    requires fresh { AreFresh (HeardStands P.rule P.stands_for) stages.plugins.items }
     ensures closed { IfOk result.closed (RunOf (seeing S.seen K.seen P.rule P.stands_for P.steady)
         stages.input result.input stages.stuffing stages.plugins.items result.plugins.items
         stages.output result.output plan.now) }

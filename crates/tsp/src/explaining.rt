@@ -3,7 +3,8 @@
 use crate::note_texts::notes_text;
 use crate::run_texts::run_text;
 use chain_args::{Plan, WordsFault, WordsRule};
-use explain_words::{HelpTable, fault_text, general_options, tsp_segments};
+use explain_tsp::tsp_help;
+use explain_words::fault_text;
 use std::alloc::AllocError;
 use ts_os::{OsDesk, write_explained};
 use tsp_top::{CallEnd, PluginNotes, Status};
@@ -15,11 +16,7 @@ fn words_text(
     word: usize,
     rule: WordsRule,
 ) -> Result<String, AllocError> {
-    let segments = tsp_segments(rt.alloc())?;
-    let table = HelpTable {
-        general: general_options(),
-        segments: segments.as_slice(),
-    };
+    let table = tsp_help(rt.alloc())?;
     fault_text(rt.alloc(), &table, words, word, rule)
 }
 

@@ -6,6 +6,7 @@ use Rattle.chain_core.specs.declared.core_plan.CorePlan.{CorePlan}
 use Rattle.stage_run.specs.declared.input_part.InputPart.{InputPart}
 use Rattle.stage_run.specs.declared.output_part.OutputPart.{OutputPart}
 use Rattle.stage_run.specs.declared.stuffing.Stuffing.{Stuffing}
+use Rattle.plugin_trait.specs.declared.heard.Heard.{Heard}
 use Rattle.stage_run.specs.Seeing.{Seeing}
 use Rattle.ts_outside.specs.Source.{SourceView}
 use Rattle.ts_outside.specs.Desk.{DeskView}
@@ -17,7 +18,7 @@ use Rattle.tsp_top.specs.declared.status.Status.{Status}
 
 module _ (plan : Plan) (tables : List (List (List ℕ))) (old mid : DeskView) (reads : ReadsTables plan.plugins tables old mid) where
   -- its ends were opened
-  pub opens-plan : {S K P : Type 0} (see : Seeing S K P) (inner : S → SourceView) (numbers : CorePlan) (made : DeskView) (from : InputPart S) (stuffing : Stuffing) (plugins : List P) (to : OutputPart K)
+  pub opens-plan : {S K P : Type 0} (see : Seeing S K P) (inner : S → SourceView) (numbers : CorePlan) (made : DeskView) (from : InputPart S) (stuffing : Stuffing) (plugins : List (Heard P)) (to : OutputPart K)
       → IsOpened see inner plan tables numbers mid made from stuffing plugins to → OpensPlan see inner plan numbers old made from stuffing plugins to
   opens-plan see inner numbers made from stuffing plugins to opened =
       (tables, reads.are, subst (λ (d : DeskView). IsOpened see inner plan tables numbers d made from stuffing plugins to) reads.asked opened)

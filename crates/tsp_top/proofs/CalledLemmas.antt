@@ -12,11 +12,13 @@ use Rattle.plug_set.specs.Plugins.{steady_of}
 use Rattle.stage_run.specs.declared.input_part.InputPart.{InputPart}
 use Rattle.stage_run.specs.declared.output_part.OutputPart.{OutputPart}
 use Rattle.stage_run.specs.declared.stuffing.Stuffing.{Stuffing}
-use Rattle.stage_run.specs.Seeing.{Seeing}
+use Rattle.plugin_trait.specs.declared.heard.Heard.{Heard}
+use Rattle.stage_run.specs.Seeing.{Seeing, heard_rule, heard_stands}
 use Rattle.ts_outside.specs.Source.{SourceView}
 use Rattle.ts_outside.specs.Desk.{DeskView}
 use Rattle.tsp_top.specs.PlannedChain.{named_rules}
 use Rattle.tsp_top.specs.PlannedTables.{tables_asked}
+use Rattle.tsp_top.specs.ByPlugin.{by_plugin}
 use Rattle.tsp_top.specs.Ran.{EndsRun, IsReady, OpensPlan, RanOpened}
 use Rattle.tsp_top.specs.Reported.{ReachesCut}
 use Rattle.tsp_top.specs.TspCall.{CallsPlan}
@@ -26,21 +28,21 @@ use Rattle.tsp_top.proofs.RunLemmas.{ends-few, ends-reach, ends-rules}
 
 -- a chain that is ready has as many plugins as its numbers say
 pub ready-plugins : {P : Type 0} (rule : P → PluginRule) (stands : P → List Cell → ℕ → Type 0) (steady : P → Option ℕ)
-    (plan : Plan) (tables : List (List (List ℕ))) (stuffing : Stuffing) (numbers : CorePlan) (plugins : List P)
+    (plan : Plan) (tables : List (List (List ℕ))) (stuffing : Stuffing) (numbers : CorePlan) (plugins : List (Heard P))
     → IsReady rule stands steady plan tables stuffing numbers plugins → numbers.plugins ≡ length plugins
 ready-plugins rule stands steady plan tables stuffing numbers plugins ready =
     ready.numbers_are.plugins
     ∙ sym (length-map plan.plugins (λ item. steady_of item.conf numbers.buffer))
     ∙ ap (λ (l : List (Option ℕ)). length l) (sym ready.rooms)
-    ∙ length-map plugins steady
+    ∙ length-map plugins (by_plugin steady)
 
 module _ {S K P : Type 0} (see : Seeing S K P) (inner : S → SourceView) (plan : Plan) (core : CorePlan) (old made : DeskView)
-    (from made_from : InputPart S) (stuffing : Stuffing) (plugins back : List P) (to made_to : OutputPart K)
+    (from made_from : InputPart S) (stuffing : Stuffing) (plugins back : List (Heard P)) (to made_to : OutputPart K)
     (closed : Result Closed AllocError)
     (opens : OpensPlan see inner plan core old made from stuffing plugins to)
     (ends : EndsRun see stuffing core from made_from plugins back to made_to closed) where
   -- the plugins that the run returns can be asked for their reports
-  pub called-reach : IfOk closed (λ c. ReachesCut see.stands back c.cut 0)
+  pub called-reach : IfOk closed (λ c. ReachesCut (heard_stands see) back c.cut 0)
   called-reach = ends-reach see stuffing core from made_from plugins back to made_to closed ends
 
   pub called-few : length back ≤ 62
@@ -48,8 +50,8 @@ module _ {S K P : Type 0} (see : Seeing S K P) (inner : S → SourceView) (plan 
 
   -- and what is reported of the run is what the call has to report
   pub called : (new : DeskView) (status : Status)
-      → ((tables : List (List (List ℕ))) (s : Stuffing) (numbers : CorePlan) (f : InputPart S) (ps : List P) (t : OutputPart K)
-      → map see.rule back ≡ rules_of (named_rules plan.plugins tables)
+      → ((tables : List (List (List ℕ))) (s : Stuffing) (numbers : CorePlan) (f : InputPart S) (ps : List (Heard P)) (t : OutputPart K)
+      → map (heard_rule see) back ≡ rules_of (named_rules plan.plugins tables)
       → EndsRun see s numbers f made_from ps back t made_to closed
       → RanOpened see inner plan tables s numbers made new f ps t status)
       → CallsPlan plan old new status

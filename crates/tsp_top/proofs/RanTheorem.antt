@@ -23,7 +23,8 @@ use Rattle.chain_core.specs.declared.core_plan.CorePlan.{CorePlan}
 use Rattle.plug_set.specs.declared.plugin_item.PluginItem.{PluginItem}
 use Rattle.chain_args.specs.declared.plan_type.Plan.{Plan}
 use Rattle.plugin_trait.specs.Steps.{IsSteadyFor}
-use Rattle.stage_run.specs.Seeing.{Seeing}
+use Rattle.plugin_trait.specs.declared.heard.Heard.{Heard}
+use Rattle.stage_run.specs.Seeing.{Seeing, heard_rule, heard_steady}
 use Rattle.stage_run.specs.declared.input_part.InputPart.{InputPart}
 use Rattle.stage_run.specs.declared.output_part.OutputPart.{OutputPart}
 use Rattle.stage_run.specs.InputStands as stage
@@ -268,7 +269,7 @@ takes-later (item ∷ items) buffer zero less no_room = λ steady.
 takes-later (item ∷ items) buffer (suc j) less no_room = takes-later items buffer j (omega arith) no_room
 
 module _ {S K P : Type 0} (see : Seeing S K P) (inner : S → SourceView) (plan : Plan) (tables : List (List (List ℕ))) (old made new : DeskView) (from made_from : InputPart S) (stuffing : Stuffing)
-    (plugins : List P) (to made_to : OutputPart K) (failed : Bool) (numbers : CorePlan) (closed : Closed)
+    (plugins : List (Heard P)) (to made_to : OutputPart K) (failed : Bool) (numbers : CorePlan) (closed : Closed)
     (opened : Opened see.source inner see.sink plan old made from to) (through : IsThrough see.source inner made_from)
     (ready : IsReady see.rule see.stands see.steady plan tables stuffing numbers plugins) where
   abbrev d2 : DeskView
@@ -280,9 +281,9 @@ module _ {S K P : Type 0} (see : Seeing S K P) (inner : S → SourceView) (plan 
   abbrev steps : Desks plan old made d2 d3
   steps = desks inner see.sink plan old made made_from made_to failed opened.asked
 
-  module _ (plugins_made : List P) (run : RunOf see from made_from stuffing plugins plugins_made to made_to numbers closed) where
+  module _ (plugins_made : List (Heard P)) (run : RunOf see from made_from stuffing plugins plugins_made to made_to numbers closed) where
     abbrev own : List PluginRule
-    own = map see.rule plugins
+    own = map (heard_rule see) plugins
 
     abbrev users : List ℕ
     users = stages_of numbers.users
@@ -306,7 +307,7 @@ module _ {S K P : Type 0} (see : Seeing S K P) (inner : S → SourceView) (plan 
     want zero is = absurd (let a = (run.memory zero is).behind_input in omega arith)
     want (suc j) is =
         let wants = run.memory (suc j) is in
-        let same : length (map see.steady plugins) ≡ length plan.plugins = ap (λ (l : List (Option ℕ)). length l) ready.rooms ∙ length-map plan.plugins (λ item. steady_of item.conf numbers.buffer) in
+        let same : length (map (heard_steady see) plugins) ≡ length plan.plugins = ap (λ (l : List (Option ℕ)). length l) ready.rooms ∙ length-map plan.plugins (λ item. steady_of item.conf numbers.buffer) in
         let at : suc j - 1 ≡ j = omega arith in
         let F : List (Option ℕ) → ℕ → Type 0 = λ rooms i. IsSteadyFor (slice_index_or rooms i None) numbers.buffer → ⊥ in
         let no_room : F (map (λ item. steady_of item.conf numbers.buffer) plan.plugins) j =
@@ -359,7 +360,7 @@ module _ {S K P : Type 0} (see : Seeing S K P) (inner : S → SourceView) (plan 
         (ap (λ (v : DeskView). v.reported) none.1 ∙ steps.reported) (ap (λ (v : DeskView). v.report_faults) none.1 ∙ steps.report_faults)
 
 -- a run between two opened ends
-pub ran-theorem : {S K P : Type 0} (see : Seeing S K P) (inner : S → SourceView) (plan : Plan) (tables : List (List (List ℕ))) (stuffing : Stuffing) (numbers : CorePlan) (old made new : DeskView) (from : InputPart S) (plugins : List P) (to : OutputPart K) (st : Status)
+pub ran-theorem : {S K P : Type 0} (see : Seeing S K P) (inner : S → SourceView) (plan : Plan) (tables : List (List (List ℕ))) (stuffing : Stuffing) (numbers : CorePlan) (old made new : DeskView) (from : InputPart S) (plugins : List (Heard P)) (to : OutputPart K) (st : Status)
     → made ≡ asked_output (asked_input old plan.input) plan.output
     → OpensInput see.source inner old plan.input from → OpensOutput see.sink (asked_input old plan.input) plan.output to
     → IsReady see.rule see.stands see.steady plan tables stuffing numbers plugins

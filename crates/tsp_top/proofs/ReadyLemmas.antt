@@ -1,10 +1,12 @@
 -- Plugins that are made one after another.
-use Rattle.std.proofs.Common.{◌≡◌, ℕ, List, [], ◌∷◌, ◌++◌, map, Option, Result, Ok, Err, IfOk, ap, sym, ◌∙◌, append_assoc}
+use Rattle.std.proofs.Common.{◌≡◌, ℕ, List, [], ◌∷◌, ◌++◌, map, Option, Result, Ok, Err, IfOk, ap, sym, subst, ◌∙◌, append_assoc}
 use Rattle.std.specs.Prelude.{IsOkAnd}
 use Rattle.std.proofs.lemmas.List.{map-append}
 use Rattle.ts_packet.specs.declared.cell.Cell.{Cell}
 use Rattle.chain_model.specs.PluginRule.{PluginRule}
 use Rattle.chain_model.specs.Reports.{rules_of}
+use Rattle.plugin_trait.specs.declared.heard.Heard.{Heard}
+use Rattle.plugin_trait.specs.HeardStands.{HeardStands}
 use Rattle.chain_run.specs.Fresh.{AreFresh}
 use Rattle.plug_set.specs.Items.{rule_of_item}
 use Rattle.plug_set.specs.Plugins.{steady_of}
@@ -30,6 +32,21 @@ one_more {P} rule stands steady plugins more r room (Ok plugin) before is has_ru
   fresh = rw is (fresh_push stands plugins plugin before fresh);
 }
 one_more rule stands steady plugins more r room (Err e) before is has_rule fresh has_room = absurd is
+
+-- what holds of a plugin that was made holds of it without lines
+pub heard_is : {P E : Type 0} (made : Result P E) (heard : Result (Heard P) E)
+    → IfOk heard (λ h. IsOkAnd made (λ plugin. h.plugin ≡ plugin)) → (F : P → Type 0) → IfOk made F → IfOk heard (λ h. F h.plugin)
+heard_is (Ok plugin) (Ok h) is F holds = subst F (sym is) holds
+heard_is (Err e) (Ok h) is F holds = absurd is
+heard_is made (Err e) is F holds = tt
+
+-- and it met no cell, as the plugin did
+pub heard_fresh : {P E : Type 0} (rule : P → PluginRule) (stands : P → List Cell → ℕ → Type 0) (made : Result P E) (heard : Result (Heard P) E)
+    → IfOk heard (λ h. IsOkAnd made (λ plugin. h.plugin ≡ plugin)) → IfOk heard (λ h. h.lines.items ≡ [])
+    → IfOk made (λ plugin. stands plugin [] 0) → IfOk heard (λ h. HeardStands rule stands h [] 0)
+heard_fresh {P} rule stands (Ok plugin) (Ok h) is none fresh = record { holds = subst (λ (p : P). stands p [] 0) (sym is) fresh; lines = none }
+heard_fresh rule stands (Err e) (Ok h) is none fresh = absurd is
+heard_fresh rule stands made (Err e) is none fresh = tt
 
 -- the rules and the rooms of the plugins after it come after its own
 pub rules_behind : {P : Type 0} (rule : P → PluginRule) (plugins more all : List P) (items rest : List PluginItem) (item : PluginItem)

@@ -10,7 +10,8 @@ use Rattle.chain_core.specs.declared.core_plan.CorePlan.{CorePlan}
 use Rattle.stage_run.specs.declared.input_part.InputPart.{InputPart}
 use Rattle.stage_run.specs.declared.output_part.OutputPart.{OutputPart}
 use Rattle.stage_run.specs.declared.stuffing.Stuffing.{Stuffing}
-use Rattle.stage_run.specs.Seeing.{Seeing}
+use Rattle.plugin_trait.specs.declared.heard.Heard.{Heard}
+use Rattle.stage_run.specs.Seeing.{Seeing, heard_rule, heard_stands}
 use Rattle.chain_run.specs.Met.{AllMetTo}
 use Rattle.chain_run.specs.RunOf.{RunOf}
 use Rattle.chain_run.proofs.RunUses.{met-to}
@@ -45,35 +46,35 @@ reports-run-same text said why f failed a old new status e1 e2 e3 h =
     subst C e3 (subst B e2 (subst A e1 h))
 
 -- the plugins of a closed run met the cells before its cut, as plugins of their own rules
-pub run-met : {S K P : Type 0} (see : Seeing S K P) (from made_from : InputPart S) (stuffing : Stuffing) (plugins made : List P)
+pub run-met : {S K P : Type 0} (see : Seeing S K P) (from made_from : InputPart S) (stuffing : Stuffing) (plugins made : List (Heard P))
     (to made_to : OutputPart K) (core : CorePlan) (closed : Closed)
-    → (run : RunOf see from made_from stuffing plugins made to made_to core closed) → AllMetTo see.stands (map see.rule made) run.list closed.cut 0 made
+    → (run : RunOf see from made_from stuffing plugins made to made_to core closed) → AllMetTo (heard_stands see) (map (heard_rule see) made) run.list closed.cut 0 made
 run-met see from made_from stuffing plugins made to made_to core closed run =
-    let M : List PluginRule → Type 0 = λ rules. AllMetTo see.stands rules run.list closed.cut 0 made in
-    subst M (sym run.rules) (met-to see.stands (map see.rule plugins) run.list run.gave closed.cut 0 made run.met)
+    let M : List PluginRule → Type 0 = λ rules. AllMetTo (heard_stands see) rules run.list closed.cut 0 made in
+    subst M (sym run.rules) (met-to (heard_stands see) (map (heard_rule see) plugins) run.list run.gave closed.cut 0 made run.met)
 
 -- so they reach it
-pub run-reaches : {S K P : Type 0} (see : Seeing S K P) (from made_from : InputPart S) (stuffing : Stuffing) (plugins made : List P)
+pub run-reaches : {S K P : Type 0} (see : Seeing S K P) (from made_from : InputPart S) (stuffing : Stuffing) (plugins made : List (Heard P))
     (to made_to : OutputPart K) (core : CorePlan) (closed : Closed)
-    → RunOf see from made_from stuffing plugins made to made_to core closed → ReachesCut see.stands made closed.cut 0
+    → RunOf see from made_from stuffing plugins made to made_to core closed → ReachesCut (heard_stands see) made closed.cut 0
 run-reaches see from made_from stuffing plugins made to made_to core closed run = record {
-  rules = map see.rule made;
+  rules = map (heard_rule see) made;
   input = run.list;
   met = run-met see from made_from stuffing plugins made to made_to core closed run;
 }
 
 -- the plugins that a run returns have the rules of the settings still
-pub ends-rules : {S K P : Type 0} (see : Seeing S K P) (stuffing : Stuffing) (core : CorePlan) (from made_from : InputPart S) (plugins made : List P)
+pub ends-rules : {S K P : Type 0} (see : Seeing S K P) (stuffing : Stuffing) (core : CorePlan) (from made_from : InputPart S) (plugins made : List (Heard P))
     (to made_to : OutputPart K) (closed : Result Closed AllocError) (rules : List PluginRule)
-    → EndsRun see stuffing core from made_from plugins made to made_to closed → map see.rule plugins ≡ rules → map see.rule made ≡ rules
+    → EndsRun see stuffing core from made_from plugins made to made_to closed → map (heard_rule see) plugins ≡ rules → map (heard_rule see) made ≡ rules
 ends-rules see stuffing core from made_from plugins made to made_to (Ok closed) rules ends are = ends.run.rules ∙ are
 ends-rules see stuffing core from made_from plugins made to made_to (Err e) rules ends are =
-    ap (λ (l : List _). map see.rule l) ends.never_began.plugins_same ∙ are
+    ap (λ (l : List _). map (heard_rule see) l) ends.never_began.plugins_same ∙ are
 
 -- and they reach its cut, if it was closed
-pub ends-reach : {S K P : Type 0} (see : Seeing S K P) (stuffing : Stuffing) (core : CorePlan) (from made_from : InputPart S) (plugins made : List P)
+pub ends-reach : {S K P : Type 0} (see : Seeing S K P) (stuffing : Stuffing) (core : CorePlan) (from made_from : InputPart S) (plugins made : List (Heard P))
     (to made_to : OutputPart K) (closed : Result Closed AllocError)
-    → EndsRun see stuffing core from made_from plugins made to made_to closed → IfOk closed (λ closed. ReachesCut see.stands made closed.cut 0)
+    → EndsRun see stuffing core from made_from plugins made to made_to closed → IfOk closed (λ closed. ReachesCut (heard_stands see) made closed.cut 0)
 ends-reach see stuffing core from made_from plugins made to made_to (Ok closed) ends = run-reaches see from made_from stuffing plugins made to made_to core closed ends.run
 ends-reach see stuffing core from made_from plugins made to made_to (Err e) ends = tt
 
@@ -82,13 +83,13 @@ length-named_rules : (items : List PluginItem) (tables : List (List (List ℕ)))
 length-named_rules [] tables = refl
 length-named_rules (item ∷ items) tables = ap suc (length-named_rules items (later_tables tables))
 
-pub ends-few : {S K P : Type 0} (see : Seeing S K P) (stuffing : Stuffing) (core : CorePlan) (from made_from : InputPart S) (plugins made : List P)
+pub ends-few : {S K P : Type 0} (see : Seeing S K P) (stuffing : Stuffing) (core : CorePlan) (from made_from : InputPart S) (plugins made : List (Heard P))
     (to made_to : OutputPart K) (closed : Result Closed AllocError) (plan : Plan) (tables : List (List (List ℕ)))
     → EndsRun see stuffing core from made_from plugins made to made_to closed → IsReady see.rule see.stands see.steady plan tables stuffing core plugins → length made ≤ 62
 ends-few see stuffing core from made_from plugins made to made_to closed plan tables ends ready =
     let rules = ends-rules see stuffing core from made_from plugins made to made_to closed (rules_of (named_rules plan.plugins tables)) ends ready.rules in
     let count : length made ≡ length plan.plugins =
-    sym (length-map made see.rule) ∙ ap (λ (l : List PluginRule). length l) rules ∙ length-named_rules plan.plugins tables in
+    sym (length-map made (heard_rule see)) ∙ ap (λ (l : List PluginRule). length l) rules ∙ length-named_rules plan.plugins tables in
     let few : core.plugins ≤ 62 = ready.numbers_are.lawful.plugins in
     let same : core.plugins ≡ length plan.plugins = ready.numbers_are.plugins in
     omega (arith, count, few, same)

@@ -1,4 +1,5 @@
 -- The definitions of a call of `tsp`.
+pub mod ByPlugin
 pub mod CallOutcome
 pub mod CanEnd
 pub mod ExitNumber

@@ -11,6 +11,8 @@ use Rattle.chain_core.specs.declared.closed.Closed.{Closed}
 use Rattle.chain_core.specs.declared.core_plan.CorePlan.{CorePlan}
 use Rattle.chain_model.specs.PluginRule.{PluginRule}
 use Rattle.chain_model.specs.Reports.{reports, rules_of}
+use Rattle.plugin_trait.specs.declared.heard.Heard.{Heard}
+use Rattle.plugin_trait.specs.HeardStands.{HeardStands}
 use Rattle.stage_run.specs.declared.input_part.InputPart.{InputPart}
 use Rattle.stage_run.specs.declared.output_part.OutputPart.{OutputPart}
 use Rattle.stage_run.specs.declared.stuffing.Stuffing.{Stuffing}
@@ -20,6 +22,7 @@ use Rattle.stage_run.specs.Seeing.{Seeing}
 use Rattle.chain_run.specs.Fresh.{AreFresh}
 use Rattle.chain_run.specs.RunOf.{RunOf, NeverBegan}
 use Rattle.plug_set.specs.Plugins.{steady_of}
+use Rattle.tsp_top.specs.ByPlugin.{by_plugin}
 use Rattle.tsp_top.specs.PlannedChain.{stuffing_of, named_rules}
 use Rattle.tsp_top.specs.PlannedTables.{AreTables, tables_asked}
 use Rattle.tsp_top.specs.PlannedCore.{IsPlannedCore}
@@ -36,22 +39,22 @@ closed_desk inner out_seen desk input output failed =
     output_closed_as out_seen (input_closed_as inner desk input) output failed
 
 -- a chain that is ready to run: its stuffing, its numbers and its plugins are the plan's, with these tables, and no
--- plugin met a cell
+-- plugin met a cell or has lines
 pub record IsReady {P : Type 0}
     (rule : P → PluginRule) (stands : P → List Cell → ℕ → Type 0) (steady : P → Option ℕ)
-    (plan : Plan) (tables : List (List (List ℕ))) (stuffing : Stuffing) (numbers : CorePlan) (plugins : List P) : Type 0 where
+    (plan : Plan) (tables : List (List (List ℕ))) (stuffing : Stuffing) (numbers : CorePlan) (plugins : List (Heard P)) : Type 0 where
   pub stuffing_is : stage.stuffing_of stuffing ≡ stuffing_of plan.general
   pub every : 1 ≤ stuffing.every
   pub numbers_are : IsPlannedCore plan numbers
-  pub rules : map rule plugins ≡ rules_of (named_rules plan.plugins tables)
+  pub rules : map (by_plugin rule) plugins ≡ rules_of (named_rules plan.plugins tables)
   -- each took its room for as many positions as the buffer has, where its settings say that it does
-  pub rooms : map steady plugins ≡ map (λ item. steady_of item.conf numbers.buffer) plan.plugins
-  pub fresh : AreFresh stands plugins
+  pub rooms : map (by_plugin steady) plugins ≡ map (λ item. steady_of item.conf numbers.buffer) plan.plugins
+  pub fresh : AreFresh (HeardStands rule stands) plugins
 
 -- a call whose chain is ready and whose two ends were opened, the input first
 pub record IsOpened {S K P : Type 0} (see : Seeing S K P) (inner : S → SourceView)
     (plan : Plan) (tables : List (List (List ℕ))) (numbers : CorePlan) (old made : DeskView)
-    (from : InputPart S) (stuffing : Stuffing) (plugins : List P) (to : OutputPart K) : Type 0 where
+    (from : InputPart S) (stuffing : Stuffing) (plugins : List (Heard P)) (to : OutputPart K) : Type 0 where
   pub ready : IsReady see.rule see.stands see.steady plan tables stuffing numbers plugins
   pub asked : made ≡ asked_output (asked_input old plan.input) plan.output
   pub input : OpensInput see.source inner old plan.input from
@@ -60,14 +63,14 @@ pub record IsOpened {S K P : Type 0} (see : Seeing S K P) (inner : S → SourceV
 
 -- the same of a call whose tables were read before
 abbrev pub OpensPlan : {S K P : Type 0} → Seeing S K P → (S → SourceView) → Plan → CorePlan → DeskView → DeskView
-    → InputPart S → Stuffing → List P → OutputPart K → Type 0
+    → InputPart S → Stuffing → List (Heard P) → OutputPart K → Type 0
 OpensPlan see inner plan numbers old made from stuffing plugins to =
     (tables : List (List (List ℕ))) × AreTables old plan.plugins tables
     × IsOpened see inner plan tables numbers (tables_asked old plan) made from stuffing plugins to
 
 -- what every run ensures, whoever serves the stages: it was closed, or there was no memory for it
 pub record EndsRun {S K P : Type 0} (see : Seeing S K P) (stuffing : Stuffing) (numbers : CorePlan)
-    (from made_from : InputPart S) (plugins made : List P) (to made_to : OutputPart K)
+    (from made_from : InputPart S) (plugins made : List (Heard P)) (to made_to : OutputPart K)
     (closed : Result Closed AllocError) : Type 0 where
   pub run : IfOk closed (λ closed. RunOf see from made_from stuffing plugins made to made_to numbers closed)
   pub never_began : OnErr closed (NeverBegan from made_from plugins made to made_to)
@@ -75,9 +78,9 @@ pub record EndsRun {S K P : Type 0} (see : Seeing S K P) (stuffing : Stuffing) (
 -- a run that was closed and reported, or closed only, where there was no memory for its report
 pub record RanClosed {S K P : Type 0} (see : Seeing S K P) (inner : S → SourceView)
     (plan : Plan) (tables : List (List (List ℕ))) (stuffing : Stuffing) (numbers : CorePlan) (old new : DeskView)
-    (from made_from : InputPart S) (plugins : List P) (to made_to : OutputPart K)
+    (from made_from : InputPart S) (plugins : List (Heard P)) (to made_to : OutputPart K)
     (failed : Bool) (status : Status) (closed : Closed) : Type 0 where
-  pub made : List P
+  pub made : List (Heard P)
   pub run : RunOf see from made_from stuffing plugins made to made_to numbers closed
   pub reported : ReportsRun (reports (named_rules plan.plugins tables) run.list closed.cut closed.cause)
       closed.cause failed (closed_desk inner see.sink old made_from made_to failed) new status
@@ -94,7 +97,7 @@ pub record NotRun {S K P : Type 0} (see : Seeing S K P) (inner : S → SourceVie
 -- one of the two
 abbrev pub RanEnds : {S K P : Type 0} → Seeing S K P → (S → SourceView) → Plan → List (List (List ℕ)) → Stuffing → CorePlan → DeskView
     → DeskView
-    → InputPart S → InputPart S → List P → OutputPart K → OutputPart K → Bool → Status → Type 0
+    → InputPart S → InputPart S → List (Heard P) → OutputPart K → OutputPart K → Bool → Status → Type 0
 RanEnds see inner plan tables stuffing numbers old new from made_from plugins to made_to failed status =
     ((closed : Closed)
     × RanClosed see inner plan tables stuffing numbers old new from made_from plugins to made_to failed status closed)
@@ -103,7 +106,7 @@ RanEnds see inner plan tables stuffing numbers old new from made_from plugins to
 -- the chain ran, both ends were closed, and the run was reported; or there was no memory for the run
 pub record RanOpened {S K P : Type 0} (see : Seeing S K P) (inner : S → SourceView)
     (plan : Plan) (tables : List (List (List ℕ))) (stuffing : Stuffing) (numbers : CorePlan) (old new : DeskView)
-    (from : InputPart S) (plugins : List P) (to : OutputPart K) (status : Status) : Type 0 where
+    (from : InputPart S) (plugins : List (Heard P)) (to : OutputPart K) (status : Status) : Type 0 where
   pub made_from : InputPart S
   pub made_to : OutputPart K
   -- whether the closing of the output failed

@@ -1,6 +1,7 @@
 //! What is noted of the plugins of a run, where that is asked.
 
 use plug_set::{AnyPlugin, ChangedOn, Changes, Idle, SeesTables};
+use plugin_trait::Heard;
 use std::alloc::Global;
 
 /// A plugin that was idle.
@@ -51,14 +52,14 @@ impl PluginNotes {
     }
 
     /// Notes which of these plugins were idle, before they report. One for which there is no memory is left out.
-    pub(crate) fn note_idle(&mut self, plugins: &[AnyPlugin]) {
+    pub(crate) fn note_idle(&mut self, plugins: &[Heard<AnyPlugin>]) {
         if !self.asked {
             return;
         }
         let mut number = 0u32;
-        for plugin in plugins {
+        for heard in plugins {
             number = number.saturating_add(1);
-            let Ok(Some(why)) = plugin.idle() else {
+            let Ok(Some(why)) = heard.plugin.idle() else {
                 continue;
             };
             let Ok(()) = self.idle.push(IdlePlugin { number, why }) else {
@@ -69,15 +70,15 @@ impl PluginNotes {
 
     /// Notes which tables these plugins saw change before the cut, after they reported. Those for which there is no memory
     /// are left out.
-    pub(crate) fn note_changes<P: SeesTables>(&mut self, plugins: &[P], cut: u64) {
+    pub(crate) fn note_changes<P: SeesTables>(&mut self, plugins: &[Heard<P>], cut: u64) {
         if !self.asked {
             return;
         }
         let mut number = 0u32;
-        for plugin in plugins {
+        for heard in plugins {
             number = number.saturating_add(1);
             let mut changes = Changes::new(self.alloc);
-            let Ok(()) = plugin.add_changes(&mut changes) else {
+            let Ok(()) = heard.plugin.add_changes(&mut changes) else {
                 continue;
             };
             self.push_changes(number, changes.rows(), cut);

@@ -2,8 +2,11 @@
 ghost use Rattle.std.specs.Prelude.{◌≡◌, ◌≤◌, ℕ, List, length, map, IfOk};
 ghost use Rattle.chain_model.specs.Reports.{rules_of};
 ghost use Rattle.chain_core.specs.declared.core_plan.CorePlan.{CorePlan};
+ghost use Rattle.plugin_trait.specs.HeardStands.{HeardStands};
+ghost use Rattle.plugin_trait.specs.declared.heard.Heard.{Heard};
 ghost use Rattle.stage_run.specs.Seeing.{seeing};
 ghost use Rattle.stage_run.specs.declared.stuffing.Stuffing.{Stuffing};
+ghost use Rattle.tsp_top.specs.ByPlugin.{by_plugin};
 ghost use Rattle.tsp_top.specs.PlannedChain.{named_rules};
 ghost use Rattle.tsp_top.specs.Ran.{EndsRun, RanOpened};
 ghost use Rattle.tsp_top.specs.Reported.{ReachesCut};
@@ -30,10 +33,10 @@ pub(crate) fn finish<P: Plugin + SeesTables + Drop, D: Desk>(
     notes: &mut PluginNotes,
 ) -> Status
     requires few { length end.plugins.items ≤ 62 }
-    requires reach { IfOk end.closed (λ closed. ReachesCut P.stands_for end.plugins.items closed.cut 0) }
+    requires reach { IfOk end.closed (λ closed. ReachesCut (HeardStands P.rule P.stands_for) end.plugins.items closed.cut 0) }
     ensures { (tables : List (List (List ℕ))) (stuffing : Stuffing) (numbers : CorePlan) (from : InputPart _)
-        (plugins : List P) (to : OutputPart D.Out)
-        → map P.rule end.plugins.items ≡ rules_of (named_rules plan.now.plugins tables)
+        (plugins : List (Heard P)) (to : OutputPart D.Out)
+        → map (by_plugin P.rule) end.plugins.items ≡ rules_of (named_rules plan.now.plugins tables)
         → EndsRun (seeing ⟦<FormSource<D::In> as Source>⟧.seen D.Out.seen P.rule P.stands_for P.steady)
         stuffing numbers from end.input plugins end.plugins.items to end.output end.closed
         → RanOpened (seeing ⟦<FormSource<D::In> as Source>⟧.seen D.Out.seen P.rule P.stands_for P.steady)

@@ -1,6 +1,7 @@
 //! The run in threads.
 ghost use Rattle.std.specs.Prelude.{◌≡◌, ◌≤◌, vec_len};
 ghost use Rattle.chain_core.specs.CoreNumbers.{IsLawfulPlan};
+ghost use Rattle.plugin_trait.specs.HeardStands.{HeardStands};
 ghost use Rattle.chain_run.specs.Fresh.{AreFresh};
 ghost use Rattle.stage_run.specs.Parts.{IsUnused};
 ghost use Rattle.stage_run.specs.Seeing.{seeing};
@@ -37,7 +38,7 @@ where
     requires unused { IsUnused stages.input }
     requires lawful { IsLawfulPlan core.now }
     requires plugins { core.now.plugins ≡ vec_len stages.plugins }
-    requires fresh { AreFresh P.stands_for stages.plugins.items }
+    requires fresh { AreFresh (HeardStands P.rule P.stands_for) stages.plugins.items }
     ensures { EndsRun (seeing S.seen K.seen P.rule P.stands_for P.steady)
         stages.stuffing core.now stages.input result.input
         stages.plugins.items result.plugins.items stages.output result.output result.closed }

@@ -1,11 +1,13 @@
 //! A chain that is ready to run: its numbers and its plugins, before anything is opened.
 ghost use Rattle.std.specs.Prelude.{◌≡◌, ◌++◌, ◌∷◌, [], map, IfOk, IsOkAnd, OnOk};
 ghost use Rattle.std.specs.List.{All};
+ghost use Rattle.plugin_trait.specs.HeardStands.{HeardStands};
 ghost use Rattle.plug_set.specs.Items.{IsLawfulItem};
 ghost use Rattle.plug_set.specs.Plugins.{steady_of};
 ghost use Rattle.chain_args.specs.LawfulPlan.{IsLawfulPlan};
 ghost use Rattle.chain_model.specs.Reports.{rules_of};
 ghost use Rattle.chain_run.specs.Fresh.{AreFresh};
+ghost use Rattle.tsp_top.specs.ByPlugin.{by_plugin};
 ghost use Rattle.tsp_top.specs.PlannedChain.{first_table, later_tables, named_rules};
 ghost use Rattle.tsp_top.specs.Ran.{IsReady};
 
@@ -14,7 +16,7 @@ use crate::planning::{planned_core, planned_stuffing};
 use chain_args::Plan;
 use chain_core::CorePlan;
 use plug_set::{AnyPlugin, PluginItem};
-use plugin_trait::Plugin;
+use plugin_trait::{Heard, Plugin};
 use stage_run::Stuffing;
 use std::alloc::{AllocError, Global};
 use ts_section::Section;
@@ -24,7 +26,7 @@ use ts_section::Section;
 pub(crate) struct ReadyChain<P> {
     pub(crate) stuffing: Stuffing,
     pub(crate) core: CorePlan,
-    pub(crate) plugins: Vec<P>,
+    pub(crate) plugins: Vec<Heard<P>>,
 }
 
 /// Takes out the first of the tables; where there is none, a table without sections.
@@ -40,6 +42,21 @@ fn take_table(alloc: Global, tables: &mut Vec<Vec<Section>>) -> Vec<Section>
     }
 }
 
+/// A plugin that was made, which has no lines yet.
+fn without_lines<P: Drop>(
+    alloc: Global,
+    made: Result<P, AllocError>,
+) -> Result<Heard<P>, AllocError>
+    ensures plugin { IfOk result (λ heard. IsOkAnd made (λ plugin. heard.plugin ≡ plugin)) }
+    ensures none { IfOk result (λ heard. heard.lines.items ≡ []) }
+{
+    let plugin = made?;
+    Ok(Heard {
+        plugin,
+        lines: Vec::new(alloc),
+    })
+}
+
 /// Appends a plugin that was made to others.
 fn push_made<P: Drop>(plugins: &mut Vec<P>, made: Result<P, AllocError>) -> Result<(), AllocError>
     ensures { OnOk result (IsOkAnd made (λ plugin. plugins.new.items ≡ plugins.old.items ++ plugin ∷ [])) }
@@ -48,31 +65,32 @@ fn push_made<P: Drop>(plugins: &mut Vec<P>, made: Result<P, AllocError>) -> Resu
     Ok(())
 }
 
-/// Appends the plugins of these settings and tables, which met no cell yet, to others.
+/// Appends the plugins of these settings and tables, which met no cell and have no lines yet, to others.
 fn add_plugins(
     alloc: Global,
-    plugins: &mut Vec<AnyPlugin>,
+    plugins: &mut Vec<Heard<AnyPlugin>>,
     items: &[PluginItem],
     tables: &mut Vec<Vec<Section>>,
     buffer: usize,
 ) -> Result<(), AllocError>
     requires lawful { All IsLawfulItem items.now }
-    requires before { AreFresh ⟦<AnyPlugin as Plugin>⟧.stands_for plugins.old.items }
+    requires before { AreFresh (HeardStands ⟦<AnyPlugin as Plugin>⟧.rule ⟦<AnyPlugin as Plugin>⟧.stands_for) plugins.old.items }
     ensures rules { OnOk result
-        (map ⟦<AnyPlugin as Plugin>⟧.rule plugins.new.items
-        ≡ map ⟦<AnyPlugin as Plugin>⟧.rule plugins.old.items ++ rules_of
+        (map (by_plugin ⟦<AnyPlugin as Plugin>⟧.rule) plugins.new.items
+        ≡ map (by_plugin ⟦<AnyPlugin as Plugin>⟧.rule) plugins.old.items ++ rules_of
         (named_rules items.now (map (λ table. table.items) tables.old.items))) }
     ensures rooms { OnOk result
-        (map ⟦<AnyPlugin as Plugin>⟧.steady plugins.new.items
-        ≡ map ⟦<AnyPlugin as Plugin>⟧.steady plugins.old.items
+        (map (by_plugin ⟦<AnyPlugin as Plugin>⟧.steady) plugins.new.items
+        ≡ map (by_plugin ⟦<AnyPlugin as Plugin>⟧.steady) plugins.old.items
         ++ map (λ item. steady_of item.conf buffer) items.now) }
-    ensures fresh { OnOk result (AreFresh ⟦<AnyPlugin as Plugin>⟧.stands_for plugins.new.items) }
+    ensures fresh { OnOk result (AreFresh (HeardStands ⟦<AnyPlugin as Plugin>⟧.rule ⟦<AnyPlugin as Plugin>⟧.stands_for) plugins.new.items) }
 {
     let Some((item, rest)) = items.split_first() else {
         return Ok(());
     };
     let table = take_table(alloc, tables);
-    push_made(plugins, AnyPlugin::of(alloc, item, table, buffer))?;
+    let made = AnyPlugin::of(alloc, item, table, buffer);
+    push_made(plugins, without_lines(alloc, made))?;
     add_plugins(alloc, plugins, rest, tables, buffer)
 }
 
@@ -90,7 +108,7 @@ pub(crate) fn ready_chain(
 {
     let mut tables = tables;
     let core = planned_core(plan, driver);
-    let mut plugins: Vec<AnyPlugin> = Vec::new(alloc);
+    let mut plugins: Vec<Heard<AnyPlugin>> = Vec::new(alloc);
     add_plugins(
         alloc,
         &mut plugins,

@@ -1,4 +1,4 @@
-# Completes the words of tsp in bash. Made by tools/texts of the texts of help, which are the place to change.
+# Completes the words of tsp in bash. Made by tools/texts of the texts of help, which it makes of the texts in the code.
 
 # The options of a plugin or the general ones; one that takes a value has a sign after it.
 _tsp_options() {

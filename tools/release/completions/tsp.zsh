@@ -1,5 +1,5 @@
 #compdef tsp
-# Completes the words of tsp in zsh. Made by tools/texts of the texts of help, which are the place to change.
+# Completes the words of tsp in zsh. Made by tools/texts of the texts of help, which it makes of the texts in the code.
 
 local -a plugins options ends
 local segment='' name=general start=0 at

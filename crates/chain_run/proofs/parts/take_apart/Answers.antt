@@ -1,4 +1,5 @@
 use Rattle.std.proofs.Common.{List, ◌++◌, sym, ap, subst, ◌∙◌, arith}
+use Rattle.plugin_trait.specs.declared.heard.Heard.{Heard}
 use Rattle.stage_run.specs.Seeing.{seeing}
 use Rattle.stage_run.specs.declared.stage_part.StagePart.{StagePart}
 use Rattle.chain_run.specs.Parts.{AreStages, AreTakenFrom, ArePluginsAndOutput}
@@ -38,8 +39,8 @@ returns g c =
       in_stream = c.into_input-input.ensures.stream;
       in_leaves = c.into_input-input.ensures.leaves;
       some_list = c.into_input-input.ensures.some_list;
-      taken = subst (λ (l : List g.row.P.Denot). AreTakenFrom see c.remove.new.self.items l)
-          (sym (c.take_plugins.ensures.taken.1 ∙ ap (λ (l : List g.row.P.Denot). l ++ c.take_plugins.ensures.taken.0) c.requires.none)) c.take_plugins.ensures.taken.2;
+      taken = subst (λ (l : List (Heard g.row.P.Denot)). AreTakenFrom see c.remove.new.self.items l)
+          (sym (c.take_plugins.ensures.taken.1 ∙ ap (λ (l : List (Heard g.row.P.Denot)). l ++ c.take_plugins.ensures.taken.0) c.requires.none)) c.take_plugins.ensures.taken.2;
       out_stream = c.into_output-output.ensures.stream;
       out_leaves = c.into_output-output.ensures.leaves;
     }

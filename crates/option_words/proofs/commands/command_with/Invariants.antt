@@ -2,12 +2,12 @@ use Rattle.std.proofs.Common.{◌≡◌, drop}
 use Rattle.std.specs.Prelude.{fold}
 use Rattle.clap.specs.Simple.{app_of, with_rule}
 use Rattle.option_words.specs.Options.{command_of, rule_of_kind}
-use Rattle.option_words.specs.OptionWords.{rows_of_words}
+use Rattle.option_words.specs.OptionWords.{rows_of_options}
 use Rattle.option_words.proofs.commands.command_with.Given as goal
 
 -- the options that are left, put to the command, make that of the whole table
 abbrev pub invariant-loop-option : goal.invariant-loop-option
 invariant-loop-option l =
     fold (λ a row. with_rule a (rule_of_kind row.name row.kind)) (app_of l.command)
-    (rows_of_words (drop l.option-index l.options))
-    ≡ command_of (rows_of_words l.options)
+    (rows_of_options (drop l.option-index l.options))
+    ≡ command_of (rows_of_options l.options)

@@ -1,6 +1,5 @@
-use Rattle.std.proofs.Common.{ap, ◌∙◌}
+use Rattle.std.proofs.Common.{◌∙◌}
 use Rattle.ts_packet.specs.Cells.{live_packets}
-use Rattle.info_texts.specs.InfoJson.{component_marks}
 use Rattle.plug_info.proofs.JsonLemmas.{tail_is}
 use Rattle.plug_info.proofs.LineLemmas.{three_parts}
 use Rattle.plug_info.proofs.json.component_json.Goals as goal

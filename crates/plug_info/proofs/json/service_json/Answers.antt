@@ -1,4 +1,4 @@
-use Rattle.std.proofs.Common.{ℕ, List, ◌++◌, map, ap, ap₂, ◌∙◌}
+use Rattle.std.proofs.Common.{map, ap, ap₂, ◌∙◌}
 use Rattle.ts_packet.specs.Cells.{live_packets}
 use Rattle.info_texts.specs.InfoJson.{array, portion_json, service_head}
 use Rattle.plug_info.specs.InfoRule.{component_object, pcr_pid_in, service_packets}

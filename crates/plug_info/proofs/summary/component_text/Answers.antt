@@ -1,6 +1,5 @@
-use Rattle.std.proofs.Common.{ap, ◌∙◌}
+use Rattle.std.proofs.Common.{◌∙◌}
 use Rattle.ts_packet.specs.Cells.{live_packets}
-use Rattle.info_texts.specs.InfoTexts.{marks_text}
 use Rattle.plug_info.proofs.LineLemmas.{tail_is, three_parts}
 use Rattle.plug_info.proofs.summary.component_text.Goals as goal
 

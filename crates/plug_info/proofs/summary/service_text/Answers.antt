@@ -1,4 +1,4 @@
-use Rattle.std.proofs.Common.{ℕ, List, ◌++◌, ap, ap₂, ◌∙◌}
+use Rattle.std.proofs.Common.{ap, ap₂, ◌∙◌}
 use Rattle.plug_info.specs.InfoRule.{pcr_pid_in, service_packets}
 use Rattle.info_texts.specs.InfoTexts.{portion_text, service_head, service_tail}
 use Rattle.plug_info.specs.SdtInForce.{service_body}

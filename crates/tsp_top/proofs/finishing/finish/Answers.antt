@@ -2,6 +2,7 @@ use Rattle.std.proofs.Common.{is_err, ap, map, List, ◌∙◌, sym, refl, inl, 
 use Rattle.plug_set.specs.declared.plugin_item.PluginItem.{PluginItem}
 use Rattle.chain_model.specs.Reports.{reports, rules_of}
 use Rattle.ts_outside.specs.Desk.{DeskView}
+use Rattle.tsp_top.specs.ByPlugin.{by_plugin}
 use Rattle.tsp_top.specs.PlannedChain.{named_rules}
 use Rattle.tsp_top.specs.Openings.{output_closed_as}
 use Rattle.tsp_top.proofs.RunLemmas.{run-met, if-ok, on-err, on-true-is_err, reports-run-same}
@@ -31,7 +32,7 @@ returns-in-Ok g c = λ tables stuffing numbers from plugins to rules ends.
               (c.close_output-closing.ensures.closed
               ∙ ap (λ (d : DeskView). output_closed_as g.D.Out.Sink.seen d c.args.end.output (is_err c.close_output-closing.result)) c.close_input.ensures.closed)
               (c.report_run-status.ensures tables run.list
-              (ap (λ (l : List _). map g.P.Plugin.rule l) c.deref_mut.ensures.value ∙ rules ∙ ap (λ (items : List PluginItem). rules_of (named_rules items tables)) (sym c.as_slice.ensures))
+              (ap (λ (l : List _). map (by_plugin g.P.Plugin.rule) l) c.deref_mut.ensures.value ∙ rules ∙ ap (λ (items : List PluginItem). rules_of (named_rules items tables)) (sym c.as_slice.ensures))
               (rw c.deref_mut.ensures.value (run-met _ from c.args.end.input stuffing plugins c.args.end.plugins.items to c.args.end.output numbers c.in-Ok.closed run)));
         },
       );

@@ -6,8 +6,5 @@ use Rattle.plug_info.proofs.info.InfoPlugin.step.Goals as goal
 pub returns-in-Ok-clause-same_rule : goal.returns-in-Ok-clause-same_rule
 returns-in-Ok-clause-same_rule c = ap (λ (j : Bool). let conf : InfoConf = record { json = j } in info_rule conf) c.meet.ensures.same
 
-pub returns-then-is_live-clause-same_rule : goal.returns-then-is_live-clause-same_rule
-returns-then-is_live-clause-same_rule c = ap (λ (j : Bool). let conf : InfoConf = record { json = j } in info_rule conf) c.meet.ensures.same
-
-pub returns-else-is_live-clause-same_rule : goal.returns-else-is_live-clause-same_rule
-returns-else-is_live-clause-same_rule c = ap (λ (j : Bool). let conf : InfoConf = record { json = j } in info_rule conf) c.meet.ensures.same
+pub returns-in-Err-clause-same_rule : goal.returns-in-Err-clause-same_rule
+returns-in-Err-clause-same_rule c = ap (λ (j : Bool). let conf : InfoConf = record { json = j } in info_rule conf) c.meet.ensures.same

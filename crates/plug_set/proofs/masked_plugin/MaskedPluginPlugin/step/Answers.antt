@@ -4,8 +4,8 @@ use Rattle.plug_set.proofs.masked_plugin.MaskedPluginPlugin.step.Goals as goal
 pub step-requires-clause-met : goal.step-requires-clause-met
 step-requires-clause-met g c = met-shown (g.P.Plugin.stands_for c.args.self.now.plugin) c.args.self.now.only c.args.at c.requires.met
 
-pub step-requires-2-clause-met : goal.step-requires-2-clause-met
-step-requires-2-clause-met g c = met-shown (g.P.Plugin.stands_for c.args.self.now.plugin) c.args.self.now.only c.args.at c.requires.met
+pub pass_over-requires-clause-met : goal.pass_over-requires-clause-met
+pass_over-requires-clause-met g c = met-shown (g.P.Plugin.stands_for c.args.self.now.plugin) c.args.self.now.only c.args.at c.requires.met
 
 pub returns-then-shows-clause-room : goal.returns-then-shows-clause-room
 returns-then-shows-clause-room g c = λ room.

@@ -1,158 +1,159 @@
--- Written by tools/answers.
--- Each kind's own settings, as settings of any kind.
-use Rattle.plug_pass.specs.FilterWords.{filter}
-use Rattle.plug_pass.specs.SkipWords.{skip}
-use Rattle.plug_pass.specs.SliceWords.{slice}
-use Rattle.plug_pass.specs.PatternWords.{pattern}
-use Rattle.plug_end.specs.UntilWords.{until}
-use Rattle.plug_watch.specs.CountWords.{count}
-use Rattle.plug_watch.specs.ContinuityWords.{continuity}
-use Rattle.plug_move.specs.RemapWords.{remap}
-use Rattle.plug_inject.specs.InjectWords.{inject}
-use Rattle.plug_edit.specs.PatWords.{pat}
-use Rattle.plug_edit.specs.CatWords.{cat}
-use Rattle.plug_edit.specs.PmtWords.{pmt}
-use Rattle.plug_edit.specs.SdtWords.{sdt}
-use Rattle.plug_edit.specs.NitWords.{nit}
-use Rattle.plug_service.specs.ServiceWords.{service_options}
-use Rattle.plug_analyze.specs.AnalyzeWords.{analyze}
-use Rattle.plug_info.specs.InfoWords.{info}
-use Rattle.plug_tables.specs.TablesWords.{tables}
-use Rattle.plug_window.specs.WindowWords.{window}
-use Rattle.plug_pcr.specs.PcrverifyWords.{pcrverify}
+-- Written by tools/plugins from plugins.txt.
+use Rattle.plug_pass.specs.FilterEntry.{filter_entry}
+use Rattle.plug_pass.specs.SkipEntry.{skip_entry}
+use Rattle.plug_pass.specs.SliceEntry.{slice_entry}
+use Rattle.plug_pass.specs.PatternEntry.{pattern_entry}
+use Rattle.plug_end.specs.UntilEntry.{until_entry}
+use Rattle.plug_watch.specs.CountEntry.{count_entry}
+use Rattle.plug_watch.specs.ContinuityEntry.{continuity_entry}
+use Rattle.plug_move.specs.RemapEntry.{remap_entry}
+use Rattle.plug_inject.specs.InjectEntry.{inject_entry}
+use Rattle.plug_edit.specs.PatEntry.{pat_entry}
+use Rattle.plug_edit.specs.CatEntry.{cat_entry}
+use Rattle.plug_edit.specs.PmtEntry.{pmt_entry}
+use Rattle.plug_edit.specs.SdtEntry.{sdt_entry}
+use Rattle.plug_edit.specs.NitEntry.{nit_entry}
+use Rattle.plug_service.specs.ZapEntry.{zap_entry}
+use Rattle.plug_service.specs.SvremoveEntry.{svremove_entry}
+use Rattle.plug_analyze.specs.AnalyzeEntry.{analyze_entry}
+use Rattle.plug_info.specs.InfoEntry.{info_entry}
+use Rattle.plug_tables.specs.TablesEntry.{tables_entry}
+use Rattle.plug_window.specs.CompactEntry.{compact_entry}
+use Rattle.plug_window.specs.RmorphanEntry.{rmorphan_entry}
+use Rattle.plug_pcr.specs.PcrverifyEntry.{pcrverify_entry}
 use Rattle.plug_set.specs.Plugins.{IsLawful}
 use Rattle.plug_set.specs.declared.plugin_conf.PluginConf.TheVariants as conf
 use Rattle.plug_set.proofs.ArmLemmas.{made, read_into}
 use Rattle.plug_set.proofs.plugin_conf.PluginKind.settings.Goals as goal
 
 pub returns-in-Filter-clause-reads : goal.returns-in-Filter-clause-reads
-returns-in-Filter-clause-reads c = rw c.in-Filter.is (read_into conf.Filter filter c.args.found.now _ _ c.map.ensures.cases c.filter_settings.ensures.reads)
+returns-in-Filter-clause-reads c = rw c.in-Filter.is (read_into conf.Filter filter_entry.options c.args.found.now _ _ c.map.ensures.cases c.read.ensures.reads)
 
 pub returns-in-Filter-clause-lawful : goal.returns-in-Filter-clause-lawful
-returns-in-Filter-clause-lawful c = made conf.Filter _ IsLawful _ _ c.map.ensures.cases (λ _ p. p) c.filter_settings.ensures.lawful
+returns-in-Filter-clause-lawful c = made conf.Filter _ IsLawful _ _ c.map.ensures.cases (λ _ p. p) c.read.ensures.valid
 
 pub returns-in-Skip-clause-reads : goal.returns-in-Skip-clause-reads
-returns-in-Skip-clause-reads c = rw c.in-Skip.is (read_into conf.Skip skip c.args.found.now _ _ c.map-in-Skip.ensures.cases c.skip_settings.ensures.reads)
+returns-in-Skip-clause-reads c = rw c.in-Skip.is (read_into conf.Skip skip_entry.options c.args.found.now _ _ c.map-in-Skip.ensures.cases c.read-in-Skip.ensures.reads)
 
 pub returns-in-Skip-clause-lawful : goal.returns-in-Skip-clause-lawful
-returns-in-Skip-clause-lawful c = made conf.Skip _ IsLawful _ _ c.map-in-Skip.ensures.cases (λ _ p. p) c.skip_settings.ensures.lawful
+returns-in-Skip-clause-lawful c = made conf.Skip _ IsLawful _ _ c.map-in-Skip.ensures.cases (λ _ p. p) c.read-in-Skip.ensures.valid
 
 pub returns-in-Slice-clause-reads : goal.returns-in-Slice-clause-reads
-returns-in-Slice-clause-reads c = rw c.in-Slice.is (read_into conf.Slice slice c.args.found.now _ _ c.map-in-Slice.ensures.cases c.slice_settings.ensures.reads)
+returns-in-Slice-clause-reads c = rw c.in-Slice.is (read_into conf.Slice slice_entry.options c.args.found.now _ _ c.map-in-Slice.ensures.cases c.read-in-Slice.ensures.reads)
 
 pub returns-in-Slice-clause-lawful : goal.returns-in-Slice-clause-lawful
-returns-in-Slice-clause-lawful c = made conf.Slice _ IsLawful _ _ c.map-in-Slice.ensures.cases (λ _ p. p) c.slice_settings.ensures.lawful
+returns-in-Slice-clause-lawful c = made conf.Slice _ IsLawful _ _ c.map-in-Slice.ensures.cases (λ _ p. p) c.read-in-Slice.ensures.valid
 
 pub returns-in-Pattern-clause-reads : goal.returns-in-Pattern-clause-reads
-returns-in-Pattern-clause-reads c = rw c.in-Pattern.is (read_into conf.Pattern pattern c.args.found.now _ _ c.map-in-Pattern.ensures.cases c.pattern_settings.ensures.reads)
+returns-in-Pattern-clause-reads c = rw c.in-Pattern.is (read_into conf.Pattern pattern_entry.options c.args.found.now _ _ c.map-in-Pattern.ensures.cases c.read-in-Pattern.ensures.reads)
 
 pub returns-in-Pattern-clause-lawful : goal.returns-in-Pattern-clause-lawful
-returns-in-Pattern-clause-lawful c = made conf.Pattern _ IsLawful _ _ c.map-in-Pattern.ensures.cases (λ _ p. p) c.pattern_settings.ensures.lawful
+returns-in-Pattern-clause-lawful c = made conf.Pattern _ IsLawful _ _ c.map-in-Pattern.ensures.cases (λ _ p. p) c.read-in-Pattern.ensures.valid
 
 pub returns-in-Until-clause-reads : goal.returns-in-Until-clause-reads
-returns-in-Until-clause-reads c = rw c.in-Until.is (read_into conf.Until until c.args.found.now _ _ c.map-in-Until.ensures.cases c.until_settings.ensures.reads)
+returns-in-Until-clause-reads c = rw c.in-Until.is (read_into conf.Until until_entry.options c.args.found.now _ _ c.map-in-Until.ensures.cases c.read-in-Until.ensures.reads)
 
 pub returns-in-Until-clause-lawful : goal.returns-in-Until-clause-lawful
-returns-in-Until-clause-lawful c = made conf.Until _ IsLawful _ _ c.map-in-Until.ensures.cases (λ _ p. p) c.until_settings.ensures.lawful
+returns-in-Until-clause-lawful c = made conf.Until _ IsLawful _ _ c.map-in-Until.ensures.cases (λ _ p. p) c.read-in-Until.ensures.valid
 
 pub returns-in-Count-clause-reads : goal.returns-in-Count-clause-reads
-returns-in-Count-clause-reads c = rw c.in-Count.is (read_into conf.Count count c.args.found.now _ _ c.map-in-Count.ensures.cases c.count_settings.ensures.reads)
+returns-in-Count-clause-reads c = rw c.in-Count.is (read_into conf.Count count_entry.options c.args.found.now _ _ c.map-in-Count.ensures.cases c.read-in-Count.ensures.reads)
 
 pub returns-in-Count-clause-lawful : goal.returns-in-Count-clause-lawful
-returns-in-Count-clause-lawful c = made conf.Count _ IsLawful _ _ c.map-in-Count.ensures.cases (λ _ p. p) c.count_settings.ensures.lawful
+returns-in-Count-clause-lawful c = made conf.Count _ IsLawful _ _ c.map-in-Count.ensures.cases (λ _ p. p) c.read-in-Count.ensures.valid
 
 pub returns-in-Continuity-clause-reads : goal.returns-in-Continuity-clause-reads
-returns-in-Continuity-clause-reads c = rw c.in-Continuity.is (read_into conf.Continuity continuity c.args.found.now _ _ c.map-in-Continuity.ensures.cases c.continuity_settings.ensures.reads)
+returns-in-Continuity-clause-reads c = rw c.in-Continuity.is (read_into conf.Continuity continuity_entry.options c.args.found.now _ _ c.map-in-Continuity.ensures.cases c.read-in-Continuity.ensures.reads)
 
 pub returns-in-Continuity-clause-lawful : goal.returns-in-Continuity-clause-lawful
-returns-in-Continuity-clause-lawful c = made conf.Continuity _ IsLawful _ _ c.map-in-Continuity.ensures.cases (λ _ p. p) c.continuity_settings.ensures.lawful
+returns-in-Continuity-clause-lawful c = made conf.Continuity _ IsLawful _ _ c.map-in-Continuity.ensures.cases (λ _ p. p) c.read-in-Continuity.ensures.valid
 
 pub returns-in-Remap-clause-reads : goal.returns-in-Remap-clause-reads
-returns-in-Remap-clause-reads c = rw c.in-Remap.is (read_into conf.Remap remap c.args.found.now _ _ c.map-in-Remap.ensures.cases c.remap_settings.ensures.reads)
+returns-in-Remap-clause-reads c = rw c.in-Remap.is (read_into conf.Remap remap_entry.options c.args.found.now _ _ c.map-in-Remap.ensures.cases c.read-in-Remap.ensures.reads)
 
 pub returns-in-Remap-clause-lawful : goal.returns-in-Remap-clause-lawful
-returns-in-Remap-clause-lawful c = made conf.Remap _ IsLawful _ _ c.map-in-Remap.ensures.cases (λ _ p. p) c.remap_settings.ensures.lawful
+returns-in-Remap-clause-lawful c = made conf.Remap _ IsLawful _ _ c.map-in-Remap.ensures.cases (λ _ p. p) c.read-in-Remap.ensures.valid
 
 pub returns-in-Inject-clause-reads : goal.returns-in-Inject-clause-reads
-returns-in-Inject-clause-reads c = rw c.in-Inject.is (read_into conf.Inject inject c.args.found.now _ _ c.map-in-Inject.ensures.cases c.inject_settings.ensures.reads)
+returns-in-Inject-clause-reads c = rw c.in-Inject.is (read_into conf.Inject inject_entry.options c.args.found.now _ _ c.map-in-Inject.ensures.cases c.read-in-Inject.ensures.reads)
 
 pub returns-in-Inject-clause-lawful : goal.returns-in-Inject-clause-lawful
-returns-in-Inject-clause-lawful c = made conf.Inject _ IsLawful _ _ c.map-in-Inject.ensures.cases (λ _ p. p) c.inject_settings.ensures.lawful
+returns-in-Inject-clause-lawful c = made conf.Inject _ IsLawful _ _ c.map-in-Inject.ensures.cases (λ _ p. p) c.read-in-Inject.ensures.valid
 
 pub returns-in-Pat-clause-reads : goal.returns-in-Pat-clause-reads
-returns-in-Pat-clause-reads c = rw c.in-Pat.is (read_into conf.Pat pat c.args.found.now _ _ c.map-in-Pat.ensures.cases c.pat_settings.ensures.reads)
+returns-in-Pat-clause-reads c = rw c.in-Pat.is (read_into conf.Pat pat_entry.options c.args.found.now _ _ c.map-in-Pat.ensures.cases c.read-in-Pat.ensures.reads)
 
 pub returns-in-Pat-clause-lawful : goal.returns-in-Pat-clause-lawful
-returns-in-Pat-clause-lawful c = made conf.Pat _ IsLawful _ _ c.map-in-Pat.ensures.cases (λ _ p. p) c.pat_settings.ensures.lawful
+returns-in-Pat-clause-lawful c = made conf.Pat _ IsLawful _ _ c.map-in-Pat.ensures.cases (λ _ p. p) c.read-in-Pat.ensures.valid
 
 pub returns-in-Cat-clause-reads : goal.returns-in-Cat-clause-reads
-returns-in-Cat-clause-reads c = rw c.in-Cat.is (read_into conf.Cat cat c.args.found.now _ _ c.map-in-Cat.ensures.cases c.cat_settings.ensures.reads)
+returns-in-Cat-clause-reads c = rw c.in-Cat.is (read_into conf.Cat cat_entry.options c.args.found.now _ _ c.map-in-Cat.ensures.cases c.read-in-Cat.ensures.reads)
 
 pub returns-in-Cat-clause-lawful : goal.returns-in-Cat-clause-lawful
-returns-in-Cat-clause-lawful c = made conf.Cat _ IsLawful _ _ c.map-in-Cat.ensures.cases (λ _ p. p) c.cat_settings.ensures.lawful
+returns-in-Cat-clause-lawful c = made conf.Cat _ IsLawful _ _ c.map-in-Cat.ensures.cases (λ _ p. p) c.read-in-Cat.ensures.valid
 
 pub returns-in-Pmt-clause-reads : goal.returns-in-Pmt-clause-reads
-returns-in-Pmt-clause-reads c = rw c.in-Pmt.is (read_into conf.Pmt pmt c.args.found.now _ _ c.map-in-Pmt.ensures.cases c.pmt_settings.ensures.reads)
+returns-in-Pmt-clause-reads c = rw c.in-Pmt.is (read_into conf.Pmt pmt_entry.options c.args.found.now _ _ c.map-in-Pmt.ensures.cases c.read-in-Pmt.ensures.reads)
 
 pub returns-in-Pmt-clause-lawful : goal.returns-in-Pmt-clause-lawful
-returns-in-Pmt-clause-lawful c = made conf.Pmt _ IsLawful _ _ c.map-in-Pmt.ensures.cases (λ _ p. p) c.pmt_settings.ensures.lawful
+returns-in-Pmt-clause-lawful c = made conf.Pmt _ IsLawful _ _ c.map-in-Pmt.ensures.cases (λ _ p. p) c.read-in-Pmt.ensures.valid
 
 pub returns-in-Sdt-clause-reads : goal.returns-in-Sdt-clause-reads
-returns-in-Sdt-clause-reads c = rw c.in-Sdt.is (read_into conf.Sdt sdt c.args.found.now _ _ c.map-in-Sdt.ensures.cases c.sdt_settings.ensures.reads)
+returns-in-Sdt-clause-reads c = rw c.in-Sdt.is (read_into conf.Sdt sdt_entry.options c.args.found.now _ _ c.map-in-Sdt.ensures.cases c.read-in-Sdt.ensures.reads)
 
 pub returns-in-Sdt-clause-lawful : goal.returns-in-Sdt-clause-lawful
-returns-in-Sdt-clause-lawful c = made conf.Sdt _ IsLawful _ _ c.map-in-Sdt.ensures.cases (λ _ p. p) c.sdt_settings.ensures.lawful
+returns-in-Sdt-clause-lawful c = made conf.Sdt _ IsLawful _ _ c.map-in-Sdt.ensures.cases (λ _ p. p) c.read-in-Sdt.ensures.valid
 
 pub returns-in-Nit-clause-reads : goal.returns-in-Nit-clause-reads
-returns-in-Nit-clause-reads c = rw c.in-Nit.is (read_into conf.Nit nit c.args.found.now _ _ c.map-in-Nit.ensures.cases c.nit_settings.ensures.reads)
+returns-in-Nit-clause-reads c = rw c.in-Nit.is (read_into conf.Nit nit_entry.options c.args.found.now _ _ c.map-in-Nit.ensures.cases c.read-in-Nit.ensures.reads)
 
 pub returns-in-Nit-clause-lawful : goal.returns-in-Nit-clause-lawful
-returns-in-Nit-clause-lawful c = made conf.Nit _ IsLawful _ _ c.map-in-Nit.ensures.cases (λ _ p. p) c.nit_settings.ensures.lawful
+returns-in-Nit-clause-lawful c = made conf.Nit _ IsLawful _ _ c.map-in-Nit.ensures.cases (λ _ p. p) c.read-in-Nit.ensures.valid
 
 pub returns-in-Zap-clause-reads : goal.returns-in-Zap-clause-reads
-returns-in-Zap-clause-reads c = rw c.in-Zap.is (read_into conf.Zap service_options c.args.found.now _ _ c.map-in-Zap.ensures.cases c.service_settings.ensures.reads)
+returns-in-Zap-clause-reads c = rw c.in-Zap.is (read_into conf.Zap zap_entry.options c.args.found.now _ _ c.map-in-Zap.ensures.cases c.read-in-Zap.ensures.reads)
 
 pub returns-in-Zap-clause-lawful : goal.returns-in-Zap-clause-lawful
-returns-in-Zap-clause-lawful c = made conf.Zap _ IsLawful _ _ c.map-in-Zap.ensures.cases (λ _ p. p) c.service_settings.ensures.lawful
+returns-in-Zap-clause-lawful c = made conf.Zap _ IsLawful _ _ c.map-in-Zap.ensures.cases (λ _ p. p) c.read-in-Zap.ensures.valid
 
 pub returns-in-Svremove-clause-reads : goal.returns-in-Svremove-clause-reads
-returns-in-Svremove-clause-reads c = rw c.in-Svremove.is (read_into conf.Svremove service_options c.args.found.now _ _ c.map-in-Svremove.ensures.cases c.service_settings-in-Svremove.ensures.reads)
+returns-in-Svremove-clause-reads c = rw c.in-Svremove.is (read_into conf.Svremove svremove_entry.options c.args.found.now _ _ c.map-in-Svremove.ensures.cases c.read-in-Svremove.ensures.reads)
 
 pub returns-in-Svremove-clause-lawful : goal.returns-in-Svremove-clause-lawful
-returns-in-Svremove-clause-lawful c = made conf.Svremove _ IsLawful _ _ c.map-in-Svremove.ensures.cases (λ _ p. p) c.service_settings-in-Svremove.ensures.lawful
+returns-in-Svremove-clause-lawful c = made conf.Svremove _ IsLawful _ _ c.map-in-Svremove.ensures.cases (λ _ p. p) c.read-in-Svremove.ensures.valid
 
 pub returns-in-Analyze-clause-reads : goal.returns-in-Analyze-clause-reads
-returns-in-Analyze-clause-reads c = rw c.in-Analyze.is (read_into conf.Analyze analyze c.args.found.now _ _ c.map-in-Analyze.ensures.cases c.analyze_settings.ensures.reads)
+returns-in-Analyze-clause-reads c = rw c.in-Analyze.is (read_into conf.Analyze analyze_entry.options c.args.found.now _ _ c.map-in-Analyze.ensures.cases c.read-in-Analyze.ensures.reads)
 
 pub returns-in-Analyze-clause-lawful : goal.returns-in-Analyze-clause-lawful
-returns-in-Analyze-clause-lawful c = made conf.Analyze _ IsLawful _ _ c.map-in-Analyze.ensures.cases (λ _ p. p) c.analyze_settings.ensures.lawful
+returns-in-Analyze-clause-lawful c = made conf.Analyze _ IsLawful _ _ c.map-in-Analyze.ensures.cases (λ _ p. p) c.read-in-Analyze.ensures.valid
 
 pub returns-in-Info-clause-reads : goal.returns-in-Info-clause-reads
-returns-in-Info-clause-reads c = rw c.in-Info.is (read_into conf.Info info c.args.found.now _ _ c.map-in-Info.ensures.cases c.info_settings.ensures.reads)
+returns-in-Info-clause-reads c = rw c.in-Info.is (read_into conf.Info info_entry.options c.args.found.now _ _ c.map-in-Info.ensures.cases c.read-in-Info.ensures.reads)
 
 pub returns-in-Info-clause-lawful : goal.returns-in-Info-clause-lawful
-returns-in-Info-clause-lawful c = made conf.Info _ IsLawful _ _ c.map-in-Info.ensures.cases (λ _ p. p) c.info_settings.ensures.lawful
+returns-in-Info-clause-lawful c = made conf.Info _ IsLawful _ _ c.map-in-Info.ensures.cases (λ _ p. p) c.read-in-Info.ensures.valid
 
 pub returns-in-Tables-clause-reads : goal.returns-in-Tables-clause-reads
-returns-in-Tables-clause-reads c = rw c.in-Tables.is (read_into conf.Tables tables c.args.found.now _ _ c.map-in-Tables.ensures.cases c.tables_settings.ensures.reads)
+returns-in-Tables-clause-reads c = rw c.in-Tables.is (read_into conf.Tables tables_entry.options c.args.found.now _ _ c.map-in-Tables.ensures.cases c.read-in-Tables.ensures.reads)
 
 pub returns-in-Tables-clause-lawful : goal.returns-in-Tables-clause-lawful
-returns-in-Tables-clause-lawful c = made conf.Tables _ IsLawful _ _ c.map-in-Tables.ensures.cases (λ _ p. p) c.tables_settings.ensures.lawful
+returns-in-Tables-clause-lawful c = made conf.Tables _ IsLawful _ _ c.map-in-Tables.ensures.cases (λ _ p. p) c.read-in-Tables.ensures.valid
 
 pub returns-in-Compact-clause-reads : goal.returns-in-Compact-clause-reads
-returns-in-Compact-clause-reads c = rw c.in-Compact.is (read_into conf.Compact window c.args.found.now _ _ c.map-in-Compact.ensures.cases c.window_settings.ensures.reads)
+returns-in-Compact-clause-reads c = rw c.in-Compact.is (read_into conf.Compact compact_entry.options c.args.found.now _ _ c.map-in-Compact.ensures.cases c.read-in-Compact.ensures.reads)
 
 pub returns-in-Compact-clause-lawful : goal.returns-in-Compact-clause-lawful
-returns-in-Compact-clause-lawful c = made conf.Compact _ IsLawful _ _ c.map-in-Compact.ensures.cases (λ _ p. p) c.window_settings.ensures.lawful
+returns-in-Compact-clause-lawful c = made conf.Compact _ IsLawful _ _ c.map-in-Compact.ensures.cases (λ _ p. p) c.read-in-Compact.ensures.valid
 
 pub returns-in-Rmorphan-clause-reads : goal.returns-in-Rmorphan-clause-reads
-returns-in-Rmorphan-clause-reads c = rw c.in-Rmorphan.is (read_into conf.Rmorphan window c.args.found.now _ _ c.map-in-Rmorphan.ensures.cases c.window_settings-in-Rmorphan.ensures.reads)
+returns-in-Rmorphan-clause-reads c = rw c.in-Rmorphan.is (read_into conf.Rmorphan rmorphan_entry.options c.args.found.now _ _ c.map-in-Rmorphan.ensures.cases c.read-in-Rmorphan.ensures.reads)
 
 pub returns-in-Rmorphan-clause-lawful : goal.returns-in-Rmorphan-clause-lawful
-returns-in-Rmorphan-clause-lawful c = made conf.Rmorphan _ IsLawful _ _ c.map-in-Rmorphan.ensures.cases (λ _ p. p) c.window_settings-in-Rmorphan.ensures.lawful
+returns-in-Rmorphan-clause-lawful c = made conf.Rmorphan _ IsLawful _ _ c.map-in-Rmorphan.ensures.cases (λ _ p. p) c.read-in-Rmorphan.ensures.valid
 
 pub returns-in-Pcrverify-clause-reads : goal.returns-in-Pcrverify-clause-reads
-returns-in-Pcrverify-clause-reads c = rw c.in-Pcrverify.is (read_into conf.Pcrverify pcrverify c.args.found.now _ _ c.map-in-Pcrverify.ensures.cases c.pcrverify_settings.ensures.reads)
+returns-in-Pcrverify-clause-reads c = rw c.in-Pcrverify.is (read_into conf.Pcrverify pcrverify_entry.options c.args.found.now _ _ c.map-in-Pcrverify.ensures.cases c.read-in-Pcrverify.ensures.reads)
 
 pub returns-in-Pcrverify-clause-lawful : goal.returns-in-Pcrverify-clause-lawful
-returns-in-Pcrverify-clause-lawful c = made conf.Pcrverify _ IsLawful _ _ c.map-in-Pcrverify.ensures.cases (λ _ p. p) c.pcrverify_settings.ensures.lawful
+returns-in-Pcrverify-clause-lawful c = made conf.Pcrverify _ IsLawful _ _ c.map-in-Pcrverify.ensures.cases (λ _ p. p) c.read-in-Pcrverify.ensures.valid

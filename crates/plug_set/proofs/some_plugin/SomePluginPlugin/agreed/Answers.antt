@@ -1,5 +1,4 @@
--- Written by tools/answers.
--- Each plugin's own clauses, at the plugin that stands there.
+-- Written by tools/plugins from plugins.txt.
 use Rattle.plug_set.proofs.some_plugin.SomePluginPlugin.agreed.Goals as goal
 
 pub agreed-requires : goal.agreed-requires

@@ -1,6 +1,6 @@
--- Written by tools/answers.
--- Each plugin's own clauses, at the plugin that stands there.
-use Rattle.std.proofs.Common.{refl}
+-- Written by tools/plugins from plugins.txt.
+use Rattle.std.proofs.Common.{refl, false}
+use Rattle.std.proofs.lemmas.Bool.{both_ways}
 use Rattle.plug_set.proofs.some_plugin.SomePluginPlugin.note.Goals as goal
 
 pub note-requires : goal.note-requires
@@ -44,11 +44,12 @@ note-requires-in-Continuity c = rw c.in-Continuity.is at c.requires
 
 pub returns-in-Continuity : goal.returns-in-Continuity
 returns-in-Continuity c = rw c.in-Continuity.is (record {
-  notes = c.note-in-Continuity.ensures.notes;
+  gives = c.note-in-Continuity.ensures.gives;
   same_rule = c.note-in-Continuity.ensures.same_rule;
   same_steady = c.note-in-Continuity.ensures.same_steady;
   room = c.note-in-Continuity.ensures.room;
   same_silent = refl;
+  silent = λ silent. absurd (both_ways false refl silent);
 })
 
 pub note-requires-in-Remap : goal.note-requires-in-Remap
@@ -110,11 +111,12 @@ note-requires-in-Analyze c = rw c.in-Analyze.is at c.requires
 
 pub returns-in-Analyze : goal.returns-in-Analyze
 returns-in-Analyze c = rw c.in-Analyze.is (record {
-  notes = c.note-in-Analyze.ensures.notes;
+  gives = c.note-in-Analyze.ensures.gives;
   same_steady = c.note-in-Analyze.ensures.same_steady;
   room = c.note-in-Analyze.ensures.room;
   same_rule = refl;
   same_silent = refl;
+  silent = λ silent. absurd (both_ways false refl silent);
 })
 
 pub note-requires-in-Info : goal.note-requires-in-Info
@@ -122,11 +124,12 @@ note-requires-in-Info c = rw c.in-Info.is at c.requires
 
 pub returns-in-Info : goal.returns-in-Info
 returns-in-Info c = rw c.in-Info.is (record {
-  notes = c.note-in-Info.ensures.notes;
+  gives = c.note-in-Info.ensures.gives;
   same_rule = c.note-in-Info.ensures.same_rule;
   same_steady = c.note-in-Info.ensures.same_steady;
   room = c.note-in-Info.ensures.room;
   same_silent = refl;
+  silent = λ silent. absurd (both_ways false refl silent);
 })
 
 pub note-requires-in-Tables : goal.note-requires-in-Tables

@@ -1,5 +1,4 @@
--- Written by tools/answers.
--- Each plugin's own clauses, at the plugin that stands there.
+-- Written by tools/plugins from plugins.txt.
 use Rattle.std.proofs.Common.{refl}
 use Rattle.plug_set.proofs.some_plugin.SomePluginPlugin.step.Goals as goal
 
@@ -45,7 +44,6 @@ step-requires-in-Continuity c = rw c.in-Continuity.is at c.requires
 pub returns-in-Continuity : goal.returns-in-Continuity
 returns-in-Continuity c = rw c.in-Continuity.is (record {
   tells = c.step-in-Continuity.ensures.tells;
-  dropped = c.step-in-Continuity.ensures.dropped;
   meets = c.step-in-Continuity.ensures.meets;
   same_rule = c.step-in-Continuity.ensures.same_rule;
   same_steady = c.step-in-Continuity.ensures.same_steady;
@@ -63,15 +61,7 @@ pub step-requires-in-Inject : goal.step-requires-in-Inject
 step-requires-in-Inject c = rw c.in-Inject.is at c.requires
 
 pub returns-in-Inject : goal.returns-in-Inject
-returns-in-Inject c = rw c.in-Inject.is (record {
-  tells = c.step-in-Inject.ensures.tells;
-  dropped = c.step-in-Inject.ensures.dropped;
-  meets = c.step-in-Inject.ensures.meets;
-  same_rule = c.step-in-Inject.ensures.same_rule;
-  same_steady = refl;
-  same_silent = refl;
-  room = λ enough. c.step-in-Inject.ensures.no_memory;
-})
+returns-in-Inject c = rw c.in-Inject.is c.step-in-Inject.ensures
 
 pub step-requires-in-Pat : goal.step-requires-in-Pat
 step-requires-in-Pat c = rw c.in-Pat.is at c.requires
@@ -121,7 +111,6 @@ step-requires-in-Analyze c = rw c.in-Analyze.is at c.requires
 pub returns-in-Analyze : goal.returns-in-Analyze
 returns-in-Analyze c = rw c.in-Analyze.is (record {
   tells = c.step-in-Analyze.ensures.tells;
-  dropped = c.step-in-Analyze.ensures.dropped;
   meets = c.step-in-Analyze.ensures.meets;
   same_steady = c.step-in-Analyze.ensures.same_steady;
   room = c.step-in-Analyze.ensures.room;
@@ -135,7 +124,6 @@ step-requires-in-Info c = rw c.in-Info.is at c.requires
 pub returns-in-Info : goal.returns-in-Info
 returns-in-Info c = rw c.in-Info.is (record {
   tells = c.step-in-Info.ensures.tells;
-  dropped = c.step-in-Info.ensures.dropped;
   meets = c.step-in-Info.ensures.meets;
   same_rule = c.step-in-Info.ensures.same_rule;
   same_steady = c.step-in-Info.ensures.same_steady;
@@ -153,29 +141,13 @@ pub step-requires-in-Compact : goal.step-requires-in-Compact
 step-requires-in-Compact c = rw c.in-Compact.is at c.requires
 
 pub returns-in-Compact : goal.returns-in-Compact
-returns-in-Compact c = rw c.in-Compact.is (record {
-  tells = c.step-in-Compact.ensures.tells;
-  dropped = c.step-in-Compact.ensures.dropped;
-  meets = c.step-in-Compact.ensures.meets;
-  same_rule = c.step-in-Compact.ensures.same_rule;
-  same_steady = c.step-in-Compact.ensures.same_steady;
-  same_silent = refl;
-  room = λ enough. c.step-in-Compact.ensures.no_memory;
-})
+returns-in-Compact c = rw c.in-Compact.is c.step-in-Compact.ensures
 
 pub step-requires-in-Rmorphan : goal.step-requires-in-Rmorphan
 step-requires-in-Rmorphan c = rw c.in-Rmorphan.is at c.requires
 
 pub returns-in-Rmorphan : goal.returns-in-Rmorphan
-returns-in-Rmorphan c = rw c.in-Rmorphan.is (record {
-  tells = c.step-in-Rmorphan.ensures.tells;
-  dropped = c.step-in-Rmorphan.ensures.dropped;
-  meets = c.step-in-Rmorphan.ensures.meets;
-  same_rule = c.step-in-Rmorphan.ensures.same_rule;
-  same_steady = c.step-in-Rmorphan.ensures.same_steady;
-  room = c.step-in-Rmorphan.ensures.room;
-  same_silent = refl;
-})
+returns-in-Rmorphan c = rw c.in-Rmorphan.is c.step-in-Rmorphan.ensures
 
 pub step-requires-in-Pcrverify : goal.step-requires-in-Pcrverify
 step-requires-in-Pcrverify c = rw c.in-Pcrverify.is at c.requires

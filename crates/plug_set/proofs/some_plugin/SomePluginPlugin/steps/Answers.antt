@@ -1,5 +1,4 @@
--- Written by tools/answers.
--- Each plugin's own clauses, at the plugin that stands there.
+-- Written by tools/plugins from plugins.txt.
 use Rattle.plug_set.proofs.some_plugin.SomePluginPlugin.steps.Goals as goal
 
 pub steps-requires : goal.steps-requires

@@ -1,4 +1,4 @@
-use Rattle.std.proofs.Common.{[], ◌∷◌, ◌++◌, true, sym, ◌∙◌, ap}
+use Rattle.std.proofs.Common.{[], ◌∷◌, ◌++◌, sym, ◌∙◌, ap}
 use Rattle.plug_tables.specs.WatchedPackets.{is_watched}
 use Rattle.plug_tables.specs.TableReaderState.{choice_in}
 use Rattle.plug_tables.proofs.WatchedLemmas.{no_tables, some_tables}

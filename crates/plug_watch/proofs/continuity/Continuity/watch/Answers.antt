@@ -1,4 +1,4 @@
-use Rattle.std.proofs.Common.{Bool, if◌then◌else◌, ap, sym, ◌∙◌}
+use Rattle.std.proofs.Common.{Bool, if◌then◌else◌, ap, sym, ◌∙◌, arith}
 use Rattle.ts_packet.specs.Header.{with_counter}
 use Rattle.plug_watch.specs.ContinuityConfOf.{conf_of}
 use Rattle.plug_watch.specs.ContinuityRule.{fixed}
@@ -13,12 +13,12 @@ returns-then-self-clause-edited c = λ history mark w.
 
 pub returns-then-self-clause-met : goal.returns-then-self-clause-met
 returns-then-self-clause-met c = λ history mark w count labels.
-    watches_live (conf_of c.args.self.now) _ _ _ history mark w c.args.packet.now labels c.keep-right.new.self c.push_if_any.new.notes.items _
+    watches_live (conf_of c.args.self.now) _ _ _ history mark w c.args.packet.now labels (omega (arith, count, c.requires.in_range)) c.keep-right.new.self c.push_if_any.new.notes.items _
     (c.keep-right.ensures.kept (conf_of c.args.self.now) history w.remembers c.requires.watched labels)
     (c.fault.ensures (conf_of c.args.self.now) history w.remembers c.requires.watched count) c.in_ok-push_if_any.ensures.ok
 
 pub returns-else-self-clause-met : goal.returns-else-self-clause-met
 returns-else-self-clause-met c = λ history mark w count labels.
-    watches_live (conf_of c.args.self.now) _ _ _ history mark w c.args.packet.now labels c.keep-right.new.self c.push_if_any.new.notes.items _
+    watches_live (conf_of c.args.self.now) _ _ _ history mark w c.args.packet.now labels (omega (arith, count, c.requires.in_range)) c.keep-right.new.self c.push_if_any.new.notes.items _
     (c.keep-right.ensures.kept (conf_of c.args.self.now) history w.remembers c.requires.watched labels)
     (c.fault.ensures (conf_of c.args.self.now) history w.remembers c.requires.watched count) c.in_ok-push_if_any.ensures.ok

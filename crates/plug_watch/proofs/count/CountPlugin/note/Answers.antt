@@ -1,4 +1,16 @@
+use Rattle.std.proofs.Common.{List, ◌++◌, ap, ◌∙◌, refl}
+use Rattle.plugin_trait.specs.declared.line.Line.{Line}
+use Rattle.plug_watch.specs.CountConfOf.{conf_of}
+use Rattle.plug_watch.proofs.CountStates.{can_fold, counts_to, given_is}
 use Rattle.plug_watch.proofs.count.CountPlugin.note.Goals as goal
 
-pub fold-requires : goal.fold-requires
-fold-requires c = record { history = c.requires.history; mark = c.requires.mark; holds = c.requires.holds }
+pub fold_below-requires : goal.fold_below-requires
+fold_below-requires c = can_fold (conf_of c.args.self.now) _ _ _ _ c.requires.holds
+
+pub returns-clause-gives : goal.returns-clause-gives
+returns-clause-gives c = λ history mark w le within.
+    let folds = c.fold_below.ensures.folds in (
+      counts_to (conf_of c.args.self.now) _ _ history mark w c.args.written _ le within _ folds,
+      c.in_ok-push_lines_if.ensures.ok
+          ∙ ap (λ (lines : List Line). c.args.lines.now.items ++ lines) (given_is (conf_of c.args.self.now) _ _ history mark w c.args.written _ le within c.args.self.now.all refl folds.takes),
+    )

@@ -38,8 +38,8 @@ loop-i-init g c = record {
   };
 }
 
-pub step-requires-clause-met : goal.step-requires-clause-met
-step-requires-clause-met g c =
+pub meet-requires-clause-met : goal.meet-requires-clause-met
+meet-requires-clause-met g c =
     let met = c.requires.met in
     record {
       history = met.history ++ take c.loop-i.i c.args.cells.now;
@@ -59,36 +59,36 @@ loop-i-preserved g c =
       met = λ history mark holds count.
           let before = history ++ take i cells in
           let n = met_count history cells i c.args.at count c.loop-i-test.true in
-          let stands = c.step.ensures.meets before mark (c.loop-i.invariant.met history mark holds count) n in
-          let more = met_goes_on before cell c.step.result c.in-Pass.is ∙ sym (met-more history cells i cell c.loop-i-test.true is) in
-          subst (λ (met : List Cell). g.Self.Plugin.stands_for c.step.new.self met mark) more stands;
+          let stands = c.meet.ensures.meets before mark (c.loop-i.invariant.met history mark holds count) n in
+          let more = met_goes_on before cell c.meet.result c.in-Pass.is ∙ sym (met-more history cells i cell c.loop-i-test.true is) in
+          subst (λ (met : List Cell). g.Self.Plugin.stands_for c.meet.new.self met mark) more stands;
       made = λ history mark holds count.
           let before = history ++ take i cells in
           let n = met_count history cells i c.args.at count c.loop-i-test.true in
-          let told = c.step.ensures.tells before mark (c.loop-i.invariant.met history mark holds count) n in
-          let goes = subst (λ (r : PluginRule). StepTells r before cell c.step.result c.step.new.cell) c.loop-i.invariant.same_rule told in
+          let told = c.meet.ensures.tells before mark (c.loop-i.invariant.met history mark holds count) n in
+          let goes = subst (λ (r : PluginRule). StepTells r before cell c.meet.result c.meet.new.cell) c.loop-i.invariant.same_rule told in
           half_goes_on rule history cells c.loop-i.cells i cell (apply_after rule history cells) c.loop-i-test.true is
-          (c.loop-i.invariant.made history mark holds count) c.step.new.cell (omega arith)
-          (tells_goes_on rule before cell c.step.new.cell c.step.result c.in-Pass.is goes);
+          (c.loop-i.invariant.made history mark holds count) c.meet.new.cell (omega arith)
+          (tells_goes_on rule before cell c.meet.new.cell c.meet.result c.in-Pass.is goes);
       far = λ history mark holds count.
           let before = history ++ take i cells in
           let n = met_count history cells i c.args.at count c.loop-i-test.true in
-          let told = c.step.ensures.tells before mark (c.loop-i.invariant.met history mark holds count) n in
-          let goes = subst (λ (r : PluginRule). StepTells r before cell c.step.result c.step.new.cell) c.loop-i.invariant.same_rule told in
-          far_goes_on rule history cells c.loop-i.cells i cell c.step.new.cell c.loop-i-test.true (omega arith) is
-          (c.loop-i.invariant.far history mark holds count) (tells_goes_on rule before cell c.step.new.cell c.step.result c.in-Pass.is goes);
-      rest = same_behind _ _ i c.step.new.cell c.loop-i.invariant.rest;
-      same_rule = c.step.ensures.same_rule ∙ c.loop-i.invariant.same_rule;
-      same_steady = c.step.ensures.same_steady ∙ c.loop-i.invariant.same_steady;
-      same_silent = c.step.ensures.same_silent ∙ c.loop-i.invariant.same_silent;
+          let told = c.meet.ensures.tells before mark (c.loop-i.invariant.met history mark holds count) n in
+          let goes = subst (λ (r : PluginRule). StepTells r before cell c.meet.result c.meet.new.cell) c.loop-i.invariant.same_rule told in
+          far_goes_on rule history cells c.loop-i.cells i cell c.meet.new.cell c.loop-i-test.true (omega arith) is
+          (c.loop-i.invariant.far history mark holds count) (tells_goes_on rule before cell c.meet.new.cell c.meet.result c.in-Pass.is goes);
+      rest = same_behind _ _ i c.meet.new.cell c.loop-i.invariant.rest;
+      same_rule = c.meet.ensures.same_rule ∙ c.loop-i.invariant.same_rule;
+      same_steady = c.meet.ensures.same_steady ∙ c.loop-i.invariant.same_steady;
+      same_silent = c.meet.ensures.same_silent ∙ c.loop-i.invariant.same_silent;
       agreed = λ history mark holds count notes.
           let before = history ++ take i cells in
           let n = met_count history cells i c.args.at count c.loop-i-test.true in
-          let stands = subst (λ (met : List Cell). g.Self.Plugin.stands_for c.step.new.self met mark) (met_goes_on before cell c.step.result c.in-Pass.is)
-          (c.step.ensures.meets before mark (c.loop-i.invariant.met history mark holds count) n) in
-          agreed_step rule (g.Self.Plugin.rule c.step.new.self) history cells i c.args.at cell c.loop-i.agreed c.note_agreement.result c.or-agreed.result c.loop-i.noted c.note_agreement.new.noted
+          let stands = subst (λ (met : List Cell). g.Self.Plugin.stands_for c.meet.new.self met mark) (met_goes_on before cell c.meet.result c.in-Pass.is)
+          (c.meet.ensures.meets before mark (c.loop-i.invariant.met history mark holds count) n) in
+          agreed_step rule (g.Self.Plugin.rule c.meet.new.self) history cells i c.args.at cell c.loop-i.agreed c.note_agreement.result c.or-agreed.result c.loop-i.noted c.note_agreement.new.noted
           c.loop-i-test.true is count (c.loop-i.invariant.agreed history mark holds count notes)
-          (c.step.ensures.same_rule ∙ c.loop-i.invariant.same_rule) (subst (λ (b : Bool). AgreesNow c.loop-i.noted b (c.args.at + i + 1) c.note_agreement.result c.note_agreement.new.noted)
+          (c.meet.ensures.same_rule ∙ c.loop-i.invariant.same_rule) (subst (λ (b : Bool). AgreesNow c.loop-i.noted b (c.args.at + i + 1) c.note_agreement.result c.note_agreement.new.noted)
           (c.agreed-agrees.ensures (before ++ cell ∷ []) mark stands) c.note_agreement.ensures) c.or-agreed.ensures;
     }
 
@@ -99,7 +99,7 @@ returns-in-Last-clause-met g c = λ history mark holds count.
     let n = met_count history c.args.cells.now c.loop-i.i c.args.at count c.loop-i-test.true in
     let is = read_at c.loop-i.cells c.args.cells.now c.loop-i.i c.index-cells-i.result c.index-cells-i.is c.loop-i.invariant.rest in
     let stands = c.in-Last.ensures.meets before mark (c.loop-i.invariant.met history mark holds count) n in
-    subst (λ (met : List Cell). g.Self.Plugin.stands_for c.step.new.self met mark)
+    subst (λ (met : List Cell). g.Self.Plugin.stands_for c.meet.new.self met mark)
     (sym (met-more history c.args.cells.now c.loop-i.i cell c.loop-i-test.true is)) stands
 
 pub returns-in-Last-clause-agreed : goal.returns-in-Last-clause-agreed
@@ -112,9 +112,9 @@ returns-in-Last-clause-agreed g c = λ history mark holds count notes.
     let before = history ++ take i cells in
     let n = met_count history cells i c.args.at count c.loop-i-test.true in
     let stands = c.in-Last.ensures.meets before mark (c.loop-i.invariant.met history mark holds count) n in
-    agreed_step rule (g.Self.Plugin.rule c.step.new.self) history cells i c.args.at cell c.loop-i.agreed c.note_agreement-in-Last.result c.or-agreed-in-Last.result c.loop-i.noted c.note_agreement-in-Last.new.noted
+    agreed_step rule (g.Self.Plugin.rule c.meet.new.self) history cells i c.args.at cell c.loop-i.agreed c.note_agreement-in-Last.result c.or-agreed-in-Last.result c.loop-i.noted c.note_agreement-in-Last.new.noted
     c.loop-i-test.true is count (c.loop-i.invariant.agreed history mark holds count notes)
-    (c.step.ensures.same_rule ∙ c.loop-i.invariant.same_rule) (subst (λ (b : Bool). AgreesNow c.loop-i.noted b (c.args.at + i + 1) c.note_agreement-in-Last.result c.note_agreement-in-Last.new.noted)
+    (c.meet.ensures.same_rule ∙ c.loop-i.invariant.same_rule) (subst (λ (b : Bool). AgreesNow c.loop-i.noted b (c.args.at + i + 1) c.note_agreement-in-Last.result c.note_agreement-in-Last.new.noted)
     (c.agreed-agrees-in-Last.ensures (before ++ cell ∷ []) mark stands) c.note_agreement-in-Last.ensures) c.or-agreed-in-Last.ensures
 
 pub returns-in-NoMemory-clause-makes : goal.returns-in-NoMemory-clause-makes
@@ -123,7 +123,7 @@ returns-in-NoMemory-clause-makes g c = λ history mark holds count.
     let rest = apply_after rule (history ++ take c.loop-i.i c.args.cells.now) (drop c.loop-i.i c.args.cells.now) in (
       rest.cells,
       ap (λ (s : StageList). s.cells) (c.loop-i.invariant.made history mark holds count)
-          ∙ ap (λ (made : List Cell). made ++ rest.cells) (sym (take-set c.loop-i.cells c.loop-i.i c.step.new.cell)),
+          ∙ ap (λ (made : List Cell). made ++ rest.cells) (sym (take-set c.loop-i.cells c.loop-i.i c.meet.new.cell)),
     )
 
 pub returns-in-Last-clause-far : goal.returns-in-Last-clause-far
@@ -137,7 +137,7 @@ returns-in-Last-clause-far g c = λ history mark holds count.
     let n = met_count history cells i c.args.at count c.loop-i-test.true in
     let told = c.in-Last.ensures.tells before mark (c.loop-i.invariant.met history mark holds count) n in
     let fate = ap (λ (r : PluginRule). became r before cell) (sym c.loop-i.invariant.same_rule) ∙ told in
-    far_ends_after rule history cells c.loop-i.cells i cell c.step.new.cell c.loop-i-test.true (omega arith) is
+    far_ends_after rule history cells c.loop-i.cells i cell c.meet.new.cell c.loop-i-test.true (omega arith) is
     (c.loop-i.invariant.far history mark holds count) fate
 
 pub returns-in-NoMemory-clause-room : goal.returns-in-NoMemory-clause-room
@@ -147,7 +147,7 @@ returns-in-NoMemory-clause-room g c = λ has.
     let stands = c.loop-i.invariant.met has.history has.mark has.holds has.count in
     let n = met_count has.history cells i c.args.at has.count c.loop-i-test.true in
     let steady = subst (λ (s : Option ℕ). IsSteadyFor s (c.args.at + length cells - has.mark)) (sym c.loop-i.invariant.same_steady) has.within in
-    absurd (c.step.ensures.room (room_at (g.Self.Plugin.steady c.loop-i.self) (g.Self.Plugin.stands_for c.loop-i.self) (has.history ++ take i cells) has.mark (c.args.at + i)
+    absurd (c.meet.ensures.room (room_at (g.Self.Plugin.steady c.loop-i.self) (g.Self.Plugin.stands_for c.loop-i.self) (has.history ++ take i cells) has.mark (c.args.at + i)
     (c.args.at + length cells) stands n (omega (arith, c.loop-i-test.true)) steady) c.in-NoMemory.is)
 
 pub returns-in-Last-clause-makes : goal.returns-in-Last-clause-makes
@@ -162,7 +162,7 @@ returns-in-Last-clause-makes g c = λ history mark holds count.
     let told = c.in-Last.ensures.tells before mark (c.loop-i.invariant.met history mark holds count) n in
     let fate = ap (λ (r : PluginRule). became r before cell) (sym c.loop-i.invariant.same_rule) ∙ told in
     half_ends_after rule history cells c.loop-i.cells i cell (apply_after rule history cells) c.loop-i-test.true is
-    (c.loop-i.invariant.made history mark holds count) c.step.new.cell (omega arith) fate
+    (c.loop-i.invariant.made history mark holds count) c.meet.new.cell (omega arith) fate
 
 pub returns-in-Stop-clause-makes : goal.returns-in-Stop-clause-makes
 returns-in-Stop-clause-makes g c = λ history mark holds count.
@@ -176,7 +176,7 @@ returns-in-Stop-clause-makes g c = λ history mark holds count.
     let told = c.in-Stop.ensures.tells before mark (c.loop-i.invariant.met history mark holds count) n in
     let fate = ap (λ (r : PluginRule). became r before cell) (sym c.loop-i.invariant.same_rule) ∙ told.0 in
     half_ends_before rule history cells c.loop-i.cells i cell (apply_after rule history cells) c.loop-i-test.true is
-    (c.loop-i.invariant.made history mark holds count) stopped c.step.new.cell fate
+    (c.loop-i.invariant.made history mark holds count) stopped c.meet.new.cell fate
 
 pub returns-in-Refuse-clause-makes : goal.returns-in-Refuse-clause-makes
 returns-in-Refuse-clause-makes g c = λ history mark holds count.
@@ -190,7 +190,7 @@ returns-in-Refuse-clause-makes g c = λ history mark holds count.
     let told = c.in-Refuse.ensures.tells before mark (c.loop-i.invariant.met history mark holds count) n in
     let fate = ap (λ (r : PluginRule). became r before cell) (sym c.loop-i.invariant.same_rule) ∙ told.0 in
     half_ends_before rule history cells c.loop-i.cells i cell (apply_after rule history cells) c.loop-i-test.true is
-    (c.loop-i.invariant.made history mark holds count) (refused c.in-Refuse.reason) c.step.new.cell fate
+    (c.loop-i.invariant.made history mark holds count) (refused c.in-Refuse.reason) c.meet.new.cell fate
 
 pub returns-in-Stop-clause-rest : goal.returns-in-Stop-clause-rest
 returns-in-Stop-clause-rest g c =
@@ -198,7 +198,7 @@ returns-in-Stop-clause-rest g c =
     let n = met_count met.history c.args.cells.now c.loop-i.i c.args.at met.count c.loop-i-test.true in
     let stands = c.loop-i.invariant.met met.history met.mark met.holds met.count in
     let told = c.in-Stop.ensures.tells (met.history ++ take c.loop-i.i c.args.cells.now) met.mark stands n in
-    left_as_it_was c.loop-i.cells c.args.cells.now c.loop-i.i c.index-cells-i.result c.step.new.cell told.1 c.loop-i.invariant.rest
+    left_as_it_was c.loop-i.cells c.args.cells.now c.loop-i.i c.index-cells-i.result c.meet.new.cell told.1 c.loop-i.invariant.rest
 
 pub returns-in-Stop-clause-far : goal.returns-in-Stop-clause-far
 returns-in-Stop-clause-far g c = λ history mark holds count.
@@ -206,7 +206,7 @@ returns-in-Stop-clause-far g c = λ history mark holds count.
     let cells : List Cell = c.args.cells.now in
     let i : ℕ = c.loop-i.i in
     let cell : Cell = get_or c.loop-i.cells i c.index-cells-i.result in
-    far_as_before (g.Self.Plugin.rule c.args.self.now) history cells c.loop-i.cells i cell c.step.new.cell c.loop-i-test.true (omega arith)
+    far_as_before (g.Self.Plugin.rule c.args.self.now) history cells c.loop-i.cells i cell c.meet.new.cell c.loop-i-test.true (omega arith)
     (read_at c.loop-i.cells cells i c.index-cells-i.result c.index-cells-i.is c.loop-i.invariant.rest) (c.loop-i.invariant.far history mark holds count)
 
 pub returns-in-Stop-clause-met : goal.returns-in-Stop-clause-met
@@ -223,7 +223,7 @@ returns-in-Refuse-clause-rest g c =
     let n = met_count met.history c.args.cells.now c.loop-i.i c.args.at met.count c.loop-i-test.true in
     let stands = c.loop-i.invariant.met met.history met.mark met.holds met.count in
     let told = c.in-Refuse.ensures.tells (met.history ++ take c.loop-i.i c.args.cells.now) met.mark stands n in
-    left_as_it_was c.loop-i.cells c.args.cells.now c.loop-i.i c.index-cells-i.result c.step.new.cell told.1 c.loop-i.invariant.rest
+    left_as_it_was c.loop-i.cells c.args.cells.now c.loop-i.i c.index-cells-i.result c.meet.new.cell told.1 c.loop-i.invariant.rest
 
 pub returns-in-Refuse-clause-far : goal.returns-in-Refuse-clause-far
 returns-in-Refuse-clause-far g c = λ history mark holds count.
@@ -231,7 +231,7 @@ returns-in-Refuse-clause-far g c = λ history mark holds count.
     let cells : List Cell = c.args.cells.now in
     let i : ℕ = c.loop-i.i in
     let cell : Cell = get_or c.loop-i.cells i c.index-cells-i.result in
-    far_as_before (g.Self.Plugin.rule c.args.self.now) history cells c.loop-i.cells i cell c.step.new.cell c.loop-i-test.true (omega arith)
+    far_as_before (g.Self.Plugin.rule c.args.self.now) history cells c.loop-i.cells i cell c.meet.new.cell c.loop-i-test.true (omega arith)
     (read_at c.loop-i.cells cells i c.index-cells-i.result c.index-cells-i.is c.loop-i.invariant.rest) (c.loop-i.invariant.far history mark holds count)
 
 pub returns-in-Refuse-clause-met : goal.returns-in-Refuse-clause-met
@@ -248,7 +248,7 @@ returns-in-NoMemory-clause-rest g c =
     let n = met_count met.history c.args.cells.now c.loop-i.i c.args.at met.count c.loop-i-test.true in
     let stands = c.loop-i.invariant.met met.history met.mark met.holds met.count in
     let told = c.in-NoMemory.ensures.tells (met.history ++ take c.loop-i.i c.args.cells.now) met.mark stands n in
-    left_as_it_was c.loop-i.cells c.args.cells.now c.loop-i.i c.index-cells-i.result c.step.new.cell told c.loop-i.invariant.rest
+    left_as_it_was c.loop-i.cells c.args.cells.now c.loop-i.i c.index-cells-i.result c.meet.new.cell told c.loop-i.invariant.rest
 
 pub returns-in-NoMemory-clause-far : goal.returns-in-NoMemory-clause-far
 returns-in-NoMemory-clause-far g c = λ history mark holds count.
@@ -256,7 +256,7 @@ returns-in-NoMemory-clause-far g c = λ history mark holds count.
     let cells : List Cell = c.args.cells.now in
     let i : ℕ = c.loop-i.i in
     let cell : Cell = get_or c.loop-i.cells i c.index-cells-i.result in
-    far_as_before (g.Self.Plugin.rule c.args.self.now) history cells c.loop-i.cells i cell c.step.new.cell c.loop-i-test.true (omega arith)
+    far_as_before (g.Self.Plugin.rule c.args.self.now) history cells c.loop-i.cells i cell c.meet.new.cell c.loop-i-test.true (omega arith)
     (read_at c.loop-i.cells cells i c.index-cells-i.result c.index-cells-i.is c.loop-i.invariant.rest) (c.loop-i.invariant.far history mark holds count)
 
 pub returns-in-NoMemory-clause-met : goal.returns-in-NoMemory-clause-met

@@ -1,20 +1,44 @@
-use Rattle.std.proofs.Common.{◌≡◌, ℕ, ◌+◌, ◌-◌, List, [], ◌++◌, length, ap, refl, sym, subst, ◌∙◌, arith, length-append, append-nil, take, is_some, Bool, true, false, not, if◌then◌else◌, Result, is_ok, IsOk, Option, None, Some, IsSome}
+use Rattle.std.proofs.Common.{◌≡◌, ◌≤◌, ℕ, ◌+◌, ◌-◌, List, [], ◌++◌, length, ap, refl, sym, subst, ◌∙◌, arith, length-append, append-nil, take, is_some, Bool, true, false, not, if◌then◌else◌, Result, is_ok, IsOk, Option, None, Some, IsSome}
+use Rattle.std.proofs.lemmas.List.{take-append-le}
 use Rattle.ts_packet.specs.declared.cell.Cell.{Cell}
 use Rattle.chain_model.specs.PluginRule.{PluginRule}
 use Rattle.chain_model.specs.Apply.{apply_after}
 use Rattle.chain_model.specs.Joint.{agreement_of}
 use Rattle.chain_model.proofs.AgreementLaws.{agreement_of-within}
 use Rattle.plugin_trait.specs.Steps.{IsSteadyFor}
+use Rattle.plugin_trait.specs.PlacedLines.{placed_after, placed_between}
 use Rattle.plugin_trait.specs.Driving.{Makes, TellsAgreement, made_so_far}
+use Rattle.plugin_trait.specs.declared.line.Line.{Line}
+use Rattle.plugin_trait.proofs.Giving.{given_out}
 use Rattle.plugin_trait.proofs.AgreeingLemmas.{newly_agreed-within}
 use Rattle.stage_run.proofs.plugin_stage.PluginStage.pass.Goals as goal
 
--- a mark that was given
-noted : {P : Type 0} (stands : P → List Cell → ℕ → Type 0) (plugin : P) (history : List Cell) (written mark : ℕ) (ok err : Bool)
-    → ok ≡ not err → err ≡ false → stands plugin history (if ok then written else mark) → stands plugin history written
-noted stands plugin history written mark true err is none holds = holds
-noted stands plugin history written mark false true is none holds = absurd cc
-noted stands plugin history written mark false false is none holds = absurd cc
+-- a mark that was given, and the lines up to it
+noted : {P : Type 0} (stands : P → List Cell → ℕ → Type 0) (plugin : P) (rule : PluginRule) (history : List Cell) (written mark : ℕ) (before after : List Line) (ok err : Bool)
+    → ok ≡ not err → err ≡ false → stands plugin history (if ok then written else mark) × (after ≡ before ++ (if ok then placed_between rule history mark written else []))
+    → stands plugin history written × (after ≡ before ++ placed_between rule history mark written)
+noted stands plugin rule history written mark before after true err is none gives = gives
+noted stands plugin rule history written mark before after false true is none gives = absurd cc
+noted stands plugin rule history written mark before after false false is none gives = absurd cc
+
+-- a mark that was not given, and no lines
+unnoted : {P : Type 0} (stands : P → List Cell → ℕ → Type 0) (plugin : P) (rule : PluginRule) (history : List Cell) (written mark : ℕ) (before after : List Line) (ok err : Bool)
+    → ok ≡ not err → err ≡ true → stands plugin history (if ok then written else mark) × (after ≡ before ++ (if ok then placed_between rule history mark written else []))
+    → stands plugin history mark × (after ≡ before)
+unnoted stands plugin rule history written mark before after false err is some_ gives = (gives.0, gives.1 ∙ append-nil before)
+unnoted stands plugin rule history written mark before after true true is some_ gives = absurd cc
+unnoted stands plugin rule history written mark before after true false is some_ gives = absurd cc
+
+-- with the lines that were given out up to the mark, they are those of the cells below it, whatever is met after these
+lines_below : (rule new_rule : PluginRule) (history more : List Cell) (mark written : ℕ) → mark ≤ written → written ≤ length history → new_rule ≡ rule
+    → (before after : List Line) → before ≡ placed_after rule [] (take mark history) → after ≡ before ++ placed_between rule history mark written
+    → after ≡ placed_after new_rule [] (take written (history ++ more))
+lines_below rule new_rule history more mark written low high same before after was given =
+    given
+    ∙ (ap (λ (lines : List Line). lines ++ placed_between rule history mark written) was
+    ∙ (given_out rule history mark written low
+    ∙ (ap (λ (cells : List Cell). placed_after rule [] cells) (sym (take-append-le written history more high))
+    ∙ ap (λ (r : PluginRule). placed_after r [] (take written (history ++ more))) (sym same))))
 
 -- a plugin that made room notes its mark
 failed-unsteady : {E : Type 0} (steady : Option ℕ) (result : Result Unit E) (count : ℕ) (err : Bool) → (IsSome steady → IsOk result)
@@ -27,53 +51,82 @@ pub returns-then-is_err-clause-agreed : goal.returns-then-is_err-clause-agreed
 returns-then-is_err-clause-agreed g c = λ history mark allows notes.
     let count : length history ≡ c.args.at = allows.count in
     record {
-      tells = sym (newly_agreed-within c.args.at (agreement_of (g.P.Plugin.rule c.args.self.now.plugin) (history ++ []))
-          (λ m is. let few = agreement_of-within (g.P.Plugin.rule c.args.self.now.plugin) (history ++ []) m is in omega (arith, length-append history [])));
-      notes = notes ∙ ap (λ (h : List Cell). is_some (agreement_of (g.P.Plugin.rule c.args.self.now.plugin) h)) (sym (append-nil history));
+      tells = sym (newly_agreed-within c.args.at (agreement_of (g.P.Plugin.rule c.args.self.now.heard.plugin) (history ++ []))
+          (λ m is. let few = agreement_of-within (g.P.Plugin.rule c.args.self.now.heard.plugin) (history ++ []) m is in omega (arith, length-append history [])));
+      notes = notes ∙ ap (λ (h : List Cell). is_some (agreement_of (g.P.Plugin.rule c.args.self.now.heard.plugin) h)) (sym (append-nil history));
     }
 
 pub returns-then-is_err-clause-room : goal.returns-then-is_err-clause-room
 returns-then-is_err-clause-room g c = λ has.
-    absurd (failed-unsteady (g.P.Plugin.steady c.args.self.now.plugin) c.note.result (c.args.at + length c.args.cells.now - c.args.written) c.is_err.result
+    absurd (failed-unsteady (g.P.Plugin.steady c.args.self.now.heard.plugin) c.note.result (c.args.at + length c.args.cells.now - c.args.written) c.is_err.result
     c.note.ensures.room c.is_err.ensures.negation c.if-is_err.true has)
+
+pub returns-then-is_err-clause-met : goal.returns-then-is_err-clause-met
+returns-then-is_err-clause-met g c = λ history mark allows.
+    let rule = g.P.Plugin.rule c.args.self.now.heard.plugin in
+    let gives = unnoted g.P.Plugin.stands_for c.note.new.self rule history c.args.written mark _ _ _ c.is_err.result c.is_err.ensures.negation c.if-is_err.true
+    (c.note.ensures.gives history mark allows.holds.holds allows.not_below (omega (arith, allows.within, allows.count))) in
+    let same : history ++ [] ≡ history = append-nil history in
+    record {
+      mark = mark;
+      holds = record {
+        holds = subst (λ (h : List Cell). g.P.Plugin.stands_for c.note.new.self h mark) (sym same) gives.0;
+        lines = gives.1 ∙ (allows.holds.lines
+            ∙ (ap (λ (h : List Cell). placed_after rule [] (take mark h)) (sym same)
+            ∙ ap (λ (r : PluginRule). placed_after r [] (take mark (history ++ []))) (sym c.note.ensures.same_rule)));
+      };
+      below = allows.not_below;
+      told = λ fine. absurd (fine refl);
+    }
 
 pub returns-clause-makes : goal.returns-clause-makes
 returns-clause-makes g c = λ history mark allows.
-    let holds = noted g.P.Plugin.stands_for c.note.new.self history c.args.written mark _ c.is_err.result c.is_err.ensures.negation c.if-is_err.false
-    (c.note.ensures.notes history mark allows.holds allows.not_below (omega (arith, allows.within, allows.count))) in
+    let gives = noted g.P.Plugin.stands_for c.note.new.self (g.P.Plugin.rule c.args.self.now.heard.plugin) history c.args.written mark _ _ _ c.is_err.result c.is_err.ensures.negation c.if-is_err.false
+    (c.note.ensures.gives history mark allows.holds.holds allows.not_below (omega (arith, allows.within, allows.count))) in
     subst (λ (r : PluginRule). Makes (apply_after r history c.args.cells.now) (take c.steps.result.count c.steps.new.cells) c.steps.result.end)
-    c.note.ensures.same_rule (c.steps.ensures.makes history c.args.written holds allows.count)
+    c.note.ensures.same_rule (c.steps.ensures.makes history c.args.written gives.0 allows.count)
 
 pub returns-clause-far : goal.returns-clause-far
 returns-clause-far g c = λ history mark allows.
-    let holds = noted g.P.Plugin.stands_for c.note.new.self history c.args.written mark _ c.is_err.result c.is_err.ensures.negation c.if-is_err.false
-    (c.note.ensures.notes history mark allows.holds allows.not_below (omega (arith, allows.within, allows.count))) in
+    let gives = noted g.P.Plugin.stands_for c.note.new.self (g.P.Plugin.rule c.args.self.now.heard.plugin) history c.args.written mark _ _ _ c.is_err.result c.is_err.ensures.negation c.if-is_err.false
+    (c.note.ensures.gives history mark allows.holds.holds allows.not_below (omega (arith, allows.within, allows.count))) in
     subst (λ (r : PluginRule). apply_after r history (take c.steps.result.count c.args.cells.now) ≡ made_so_far (take c.steps.result.count c.steps.new.cells) c.steps.result.end)
-    c.note.ensures.same_rule (c.steps.ensures.far history c.args.written holds allows.count)
+    c.note.ensures.same_rule (c.steps.ensures.far history c.args.written gives.0 allows.count)
 
 pub returns-clause-met : goal.returns-clause-met
 returns-clause-met g c = λ history mark allows.
-    let holds = noted g.P.Plugin.stands_for c.note.new.self history c.args.written mark _ c.is_err.result c.is_err.ensures.negation c.if-is_err.false
-    (c.note.ensures.notes history mark allows.holds allows.not_below (omega (arith, allows.within, allows.count))) in
-    record { mark = c.args.written; holds = c.steps.ensures.met history c.args.written holds allows.count; below = omega arith; told = λ fine. refl }
+    let rule = g.P.Plugin.rule c.args.self.now.heard.plugin in
+    let within : c.args.written ≤ length history = omega (arith, allows.within, allows.count) in
+    let gives = noted g.P.Plugin.stands_for c.note.new.self rule history c.args.written mark _ _ _ c.is_err.result c.is_err.ensures.negation c.if-is_err.false
+    (c.note.ensures.gives history mark allows.holds.holds allows.not_below within) in
+    record {
+      mark = c.args.written;
+      holds = record {
+        holds = c.steps.ensures.met history c.args.written gives.0 allows.count;
+        lines = lines_below rule _ history (take c.steps.result.count c.args.cells.now) mark c.args.written allows.not_below within
+            (c.steps.ensures.same_rule ∙ c.note.ensures.same_rule) _ _ allows.holds.lines gives.1;
+      };
+      below = omega arith;
+      told = λ fine. refl;
+    }
 
 pub returns-clause-agreed : goal.returns-clause-agreed
 returns-clause-agreed g c = λ history mark allows notes.
-    let holds = noted g.P.Plugin.stands_for c.note.new.self history c.args.written mark _ c.is_err.result c.is_err.ensures.negation c.if-is_err.false
-    (c.note.ensures.notes history mark allows.holds allows.not_below (omega (arith, allows.within, allows.count))) in
+    let gives = noted g.P.Plugin.stands_for c.note.new.self (g.P.Plugin.rule c.args.self.now.heard.plugin) history c.args.written mark _ _ _ c.is_err.result c.is_err.ensures.negation c.if-is_err.false
+    (c.note.ensures.gives history mark allows.holds.holds allows.not_below (omega (arith, allows.within, allows.count))) in
     subst (λ (r : PluginRule). TellsAgreement r (history ++ take c.steps.result.count c.args.cells.now) c.args.at c.steps.result.agreed c.steps.new.noted)
-    c.note.ensures.same_rule (c.steps.ensures.agreed history c.args.written holds allows.count
+    c.note.ensures.same_rule (c.steps.ensures.agreed history c.args.written gives.0 allows.count
     (notes ∙ ap (λ (r : PluginRule). is_some (agreement_of r history)) (sym c.note.ensures.same_rule)))
 
 pub returns-clause-room : goal.returns-clause-room
 returns-clause-room g c = λ has.
     let may = c.requires.may in
-    let holds = noted g.P.Plugin.stands_for c.note.new.self may.history c.args.written may.mark _ c.is_err.result c.is_err.ensures.negation c.if-is_err.false
-    (c.note.ensures.notes may.history may.mark may.allows.holds may.allows.not_below (omega (arith, may.allows.within, may.allows.count))) in
+    let gives = noted g.P.Plugin.stands_for c.note.new.self (g.P.Plugin.rule c.args.self.now.heard.plugin) may.history c.args.written may.mark _ _ _ c.is_err.result c.is_err.ensures.negation c.if-is_err.false
+    (c.note.ensures.gives may.history may.mark may.allows.holds.holds may.allows.not_below (omega (arith, may.allows.within, may.allows.count))) in
     c.steps.ensures.room (record {
       history = may.history;
       mark = c.args.written;
-      holds = holds;
+      holds = gives.0;
       count = may.allows.count;
       within = subst (λ (s : Option ℕ). IsSteadyFor s (c.args.at + length c.args.cells.now - c.args.written)) (sym c.note.ensures.same_steady) has;
     })

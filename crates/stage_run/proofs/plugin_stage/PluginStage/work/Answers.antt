@@ -2,6 +2,7 @@ use Rattle.std.proofs.Common.{◌≡◌, ℕ, ◌+◌, ◌-◌, ◌≤◌, Optio
 use Rattle.std.proofs.lemmas.Bool.{eqb-true}
 use Rattle.plugin_trait.specs.declared.list_end.ListEnd.TheVariants.{Through}
 use Rattle.plugin_trait.specs.Steps.{IsSteadyFor}
+use Rattle.plugin_trait.specs.HeardStands.{HeardStands}
 use Rattle.chain_model.specs.PluginRule.{PluginRule}
 use Rattle.chain_core.specs.declared.stage_end.StageEnd.{StageEnd}
 use Rattle.stage_run.specs.PartStands.{MayWork}
@@ -26,9 +27,9 @@ use Rattle.stage_run.proofs.plugin_stage.PluginStage.work.Goals as goal
 
 -- lists after which a plugin's stage may work allow its mark
 allowed : {P : Type 0} (rule : P → PluginRule) (stands : P → List Cell → ℕ → Type 0) (old : PluginStage P) (lists : PartLists) (at written : ℕ)
-    → MayWork (PluginStands rule stands old) at written lists → written ≤ at → Allows (stands old.plugin) at written lists.met lists.mark
+    → MayWork (PluginStands rule stands old) at written lists → written ≤ at → Allows (HeardStands rule stands old.heard) at written lists.met lists.mark
 allowed rule stands old lists at written may within =
-    record { holds = may.goes_on.plugin; count = sym may.goes_on.length_same ∙ may.given; not_below = may.mark; within = within }
+    record { holds = may.goes_on.heard; count = sym may.goes_on.length_same ∙ may.given; not_below = may.mark; within = within }
 
 pub returns-clause-work : goal.returns-clause-work
 returns-clause-work g c =
@@ -47,26 +48,26 @@ returns-clause-work g c =
       done = c.pass-stepped.ensures.count;
       rest = c.pass-stepped.ensures.rest;
       goes_on = λ none.
-          let all = through_all stepped.end news (c.args.at + stepped.count) (rule old.plugin) some.met cells (take stepped.count cells_new)
+          let all = through_all stepped.end news (c.args.at + stepped.count) (rule old.heard.plugin) some.met cells (take stepped.count cells_new)
           (c.pass-stepped.ensures.makes some.met some.mark allows) (sym c.told.ensures ∙ none) in
           omega (arith, length-take stepped.count cells_new);
       follows = subst (λ (e : Option StageEnd). FollowsNews news (c.args.at + stepped.count) e) (sym c.told.ensures) (FollowsNews-told stepped.end news (c.args.at + stepped.count));
       agreed = λ agreed told.
           let met : List Cell = some.met ++ take stepped.count cells in
           let tells = c.pass-stepped.ensures.agreed some.met some.mark allows may.goes_on.agreed in
-          let known = newly_agreed-Some c.args.at (agreement_of (rule old.plugin) met) agreed (sym tells.tells ∙ told) in
-          let few : agreed ≤ length met = agreement_of-within (rule old.plugin) met agreed known.1 in
+          let known = newly_agreed-Some c.args.at (agreement_of (rule old.heard.plugin) met) agreed (sym tells.tells ∙ told) in
+          let few : agreed ≤ length met = agreement_of-within (rule old.heard.plugin) met agreed known.1 in
           let count : length some.met ≡ c.args.at = allows.count in
           (known.0, omega (arith, length-append some.met (take stepped.count cells), length-take stepped.count cells, c.pass-stepped.ensures.count));
       memory = λ told.
           let ended : told_by stepped.end news (c.args.at + stepped.count) ≡ Some NoMemory = sym c.told.ensures ∙ told in
           let end : stepped.end ≡ window.NoMemory = no_memory_told stepped.end news (c.args.at + stepped.count) ended in
-          λ steady. c.pass-stepped.ensures.room (steady_less (g.P.Plugin.steady old.plugin) (news.taken - news.written)
+          λ steady. c.pass-stepped.ensures.room (steady_less (g.P.Plugin.steady old.heard.plugin) (news.taken - news.written)
           (c.args.at + length cells - news.written) (let a = c.requires.in_hand in omega arith) steady) end;
       works = λ lists may'.
           let fine = allowed rule stands old lists c.args.at news.written may' c.requires.written in
           let met = c.pass-stepped.ensures.met lists.met lists.mark fine in
-          subst (λ (e : Option StageEnd). Works (PluginStands rule stands new) (PluginWorks (rule old.plugin) lists news cells cells_new (record { done = stepped.count; word = record { agreed = stepped.agreed; ended = e } })) lists news.written cells cells_new (record { done = stepped.count; word = record { agreed = stepped.agreed; ended = e } }))
+          subst (λ (e : Option StageEnd). Works (PluginStands rule stands new) (PluginWorks (rule old.heard.plugin) lists news cells cells_new (record { done = stepped.count; word = record { agreed = stepped.agreed; ended = e } })) lists news.written cells cells_new (record { done = stepped.count; word = record { agreed = stepped.agreed; ended = e } }))
           (sym c.told.ensures)
           (plugin_works rule stands old new lists news cells cells_new c.args.at news.written stepped.count stepped.agreed stepped.end may'
           c.pass-stepped.ensures.same_rule (omega arith) c.pass-stepped.ensures.count (c.pass-stepped.ensures.makes lists.met lists.mark fine) (c.pass-stepped.ensures.far lists.met lists.mark fine)
@@ -83,20 +84,20 @@ returns-then-is_empty-clause-work g c =
     let none : cells ≡ [] = nil_from_length cells (eqb-true (length cells) 0 (sym c.is_empty.ensures ∙ c.if-is_empty.true)) in
     let told : c.ending.result ≡ plain_work 0 (followed news (c.args.at + 0)) =
     c.ending.ensures ∙ ap (plain_work 0) c.followed.ensures ∙ ap (λ (n : ℕ). plain_work 0 (followed news n)) (sym (add-zero c.args.at)) in
-    plain-stage (PluginStands rule stands old) (PluginStands rule stands old) (λ ahead. IsSteadyFor (g.P.Plugin.steady old.plugin) ahead → ⊥) DoesAll
-    (λ w before. PluginWorks (rule old.plugin) before news cells cells w)
+    plain-stage (PluginStands rule stands old) (PluginStands rule stands old) (λ ahead. IsSteadyFor (g.P.Plugin.steady old.heard.plugin) ahead → ⊥) DoesAll
+    (λ w before. PluginWorks (rule old.heard.plugin) before news cells cells w)
     c.args.at news cells cells c.ending.result 0 (followed news (c.args.at + 0)) told (omega arith) refl
     (λ e. omega (arith, ap (λ (l : List Cell). length l) none)) (FollowsNews-followed news (c.args.at + 0)) (followed-memory news (c.args.at + 0))
     (λ lists may.
     let count : length lists.met ≡ c.args.at = sym may.goes_on.length_same ∙ may.given in
     let same : lists.met ++ [] ≡ lists.met = append-nil lists.met in
     plugin_works rule stands old old lists news cells cells c.args.at news.written 0 None Through may refl refl (omega arith)
-    (ap (λ (l : List Cell). (apply_after (rule old.plugin) lists.met l).cells) (sym none), ap (λ (l : List Cell). (apply_after (rule old.plugin) lists.met l).ended) none)
+    (ap (λ (l : List Cell). (apply_after (rule old.heard.plugin) lists.met l).cells) (sym none), ap (λ (l : List Cell). (apply_after (rule old.heard.plugin) lists.met l).ended) none)
     refl
-    lists.mark (subst (λ (h : List Cell). stands old.plugin h lists.mark) (sym same) may.goes_on.plugin) may.mark
+    lists.mark (subst (λ (h : List Cell). HeardStands rule stands old.heard h lists.mark) (sym same) may.goes_on.heard) may.mark
     (λ some fine. absurd (omega (arith, some, ap (λ (l : List Cell). length l) none)))
     (record {
-      tells = sym (newly_agreed-within c.args.at (agreement_of (rule old.plugin) (lists.met ++ []))
-          (λ m is. let few = agreement_of-within (rule old.plugin) (lists.met ++ []) m is in omega (arith, length-append lists.met [])));
-      notes = may.goes_on.agreed ∙ ap (λ (h : List Cell). is_some (agreement_of (rule old.plugin) h)) (sym same);
+      tells = sym (newly_agreed-within c.args.at (agreement_of (rule old.heard.plugin) (lists.met ++ []))
+          (λ m is. let few = agreement_of-within (rule old.heard.plugin) (lists.met ++ []) m is in omega (arith, length-append lists.met [])));
+      notes = may.goes_on.agreed ∙ ap (λ (h : List Cell). is_some (agreement_of (rule old.heard.plugin) h)) (sym same);
     }))

@@ -1,0 +1,23 @@
+//! What options and operands take.
+use crate::sign::Sign;
+
+/// What an option takes, or what an operand is.
+#[derive(Clone, Copy)]
+pub enum Takes {
+    /// A number from a least to a greatest.
+    Number(u64, u64),
+    /// Numbers and ranges joined by commas, none above a greatest.
+    Ranges(u64),
+    /// Numbers and ranges joined by commas, none below a least or above a greatest.
+    RangesFrom(u64, u64),
+    /// Two numbers with a sign between them, each with its least and its greatest.
+    Pair(Sign, (u64, u64), (u64, u64)),
+    /// Such pairs, joined by commas.
+    Pairs(Sign, (u64, u64), (u64, u64)),
+    /// Bytes, two hexadecimal digits each, from a least number of them to a greatest.
+    Bytes(usize, usize),
+    /// One of these words.
+    Choice(&'static [&'static str]),
+    /// Any text.
+    Text,
+}

@@ -1,0 +1,7 @@
+use Rattle.std.proofs.Common.{ap, ◌∙◌}
+use Rattle.plug_edit.specs.Changes.{change_cat}
+use Rattle.plug_edit.specs.EditRule.{edit_rule}
+use Rattle.plug_edit.proofs.cat_plugin.new_edit_cat.Goals as goal
+
+pub returns-clause-rule : goal.returns-clause-rule
+returns-clause-rule c = c.in_ok-plugin.ensures.rule ∙ ap (λ conf. edit_rule 1 (change_cat conf)) c.in_ok-copy.ensures

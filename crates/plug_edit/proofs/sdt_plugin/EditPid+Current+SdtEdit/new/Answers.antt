@@ -1,7 +1,0 @@
-use Rattle.std.proofs.Common.{ap, ◌∙◌}
-use Rattle.plug_edit.specs.Changes.{change_sdt}
-use Rattle.plug_edit.specs.EditRule.{edit_rule}
-use Rattle.plug_edit.proofs.sdt_plugin.EditPid+Current+SdtEdit.new.Goals as goal
-
-pub returns-clause-rule : goal.returns-clause-rule
-returns-clause-rule c = c.in_ok-plugin.ensures.rule ∙ ap (λ conf. edit_rule 17 (change_sdt conf)) c.in_ok-copy.ensures

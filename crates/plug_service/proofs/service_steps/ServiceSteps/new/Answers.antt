@@ -1,0 +1,10 @@
+use Rattle.std.proofs.Common.{[], IfOk, sym, subst}
+use Rattle.plug_service.specs.EditorsState.{EditorsStand}
+use Rattle.plug_service.specs.FatesState.{FollowsService}
+use Rattle.plug_service.proofs.service_steps.ServiceSteps.new.Goals as goal
+
+pub returns-clause-stands : goal.returns-clause-stands
+returns-clause-stands c = λ _. record {
+  followed = subst (λ w. FollowsService c.args.way c.args.service w []) (sym c.in_ok-follower-2.ensures.first) c.in_ok-follower.ensures;
+  edited = subst (λ r. IfOk r (λ e. EditorsStand c.args.way c.args.service e [])) c.in_ok-follower-2.ensures.second c.new-editors.ensures;
+}

@@ -1,0 +1,153 @@
+//! The steps of `zap` and `svremove`.
+
+ghost use Rattle.std.specs.Prelude.{◌≡◌, ℕ, ◌++◌, ◌∷◌, [], List, true, IfOk, OnOk, OnErr};
+ghost use Rattle.plug_service.specs.ServiceRule.{made_of};
+ghost use Rattle.plug_service.specs.EditorsState.{left_by};
+
+use crate::editors::Editors;
+use crate::service_follower::ServiceFollower;
+use crate::way::Way;
+use plug_psi::{Changes, FailureLatch, Unedited, both, pid_of_service};
+use plugin_trait::{Outcome, Steps};
+use std::alloc::{AllocError, Global};
+use ts_packet::{Labels, Packet};
+
+/// Keeps one service of a transport stream alone, or removes it.
+///
+/// If a step runs out of memory, every later step does too.
+#[derive(Drop)]
+pub struct ServiceSteps {
+    pub(crate) way: Way,
+    pub(crate) service: u16,
+    pub(crate) stuffing: bool,
+    pub(crate) follower: ServiceFollower,
+    pub(crate) editors: Editors,
+    pub(crate) failed: FailureLatch,
+    pub(crate) alloc: Global,
+}
+
+impl ServiceSteps {
+    ghost use Rattle.plug_service.specs.ServiceState.{Served, StandsFor, rule_of};
+
+    /// New steps, which have processed no packet.
+    pub(crate) fn new(
+        alloc: Global,
+        way: Way,
+        service: u16,
+        stuffing: bool,
+    ) -> Result<ServiceSteps, AllocError>
+        ensures stands { IfOk result (λ plugin. StandsFor plugin []) }
+        ensures way { IfOk result (λ plugin. plugin.way ≡ way) }
+        ensures service { IfOk result (λ plugin. plugin.service ≡ service) }
+        ensures stuffing { IfOk result (λ plugin. plugin.stuffing ≡ stuffing) }
+    {
+        let follower = ServiceFollower::new(alloc, way, service)?;
+        let editors = Editors::new(alloc, way, service);
+        let (follower, editors) = both(follower, editors)?;
+        Ok(ServiceSteps {
+            way,
+            service,
+            stuffing,
+            follower,
+            editors,
+            failed: FailureLatch::unset(),
+            alloc,
+        })
+    }
+
+    /// Why nothing was edited: by the tables in force the service is not there.
+    pub fn unedited(&self) -> Option<Unedited> {
+        let force = &self.follower.force;
+        if force.pat().is_none() {
+            return Some(Unedited::NoPat);
+        }
+        if pid_of_service(force.pat(), self.service).is_none() {
+            return Some(Unedited::NoService(self.service));
+        }
+        match self.way {
+            Way::Keep if force.pmt(self.service).is_none() => Some(Unedited::NoPmt(self.service)),
+            Way::Keep | Way::Remove => None,
+        }
+    }
+
+    /// Adds the PIDs on which tables changed without a new version.
+    pub fn add_changes(&self, changes: &mut Changes) -> Result<(), AllocError> {
+        self.follower.force.add_changes(changes)?;
+        self.editors.add_changes(changes)
+    }
+
+    /// Processes the next packet, edits it in place, and returns whether a packet passes. After `AllocError` the packet is
+    /// as it was, and every later call returns `AllocError`.
+    #[inline]
+    fn take(&mut self, at: u64, packet: &mut Packet) -> Result<bool, AllocError>
+        ensures made { IfOk result (λ passes. (met : List (List ℕ)) → StandsFor self.old met
+            → left_by passes packet.new ≡ made_of self.old.way self.old.service met packet.old) }
+        ensures stands { OnOk result ((met : List (List ℕ)) → StandsFor self.old met → StandsFor self.new (met ++ packet.old ∷ [])) }
+        ensures spent { OnErr result (self.new.failed ≡ true) }
+        ensures as_it_was { OnErr result (packet.new ≡ packet.old) }
+        ensures way { self.new.way ≡ self.old.way }
+        ensures service { self.new.service ≡ self.old.service }
+        ensures stuffing { self.new.stuffing ≡ self.old.stuffing }
+    {
+        self.failed.check()?;
+        let answer = self.advance(at, packet);
+        let passes = self.failed.note(answer)?;
+        Ok(passes)
+    }
+
+    /// Processes the next packet, unless memory ran out before. After `AllocError` the packet is as it was.
+    #[inline]
+    fn advance(&mut self, at: u64, packet: &mut Packet) -> Result<bool, AllocError>
+        ensures made { IfOk result (λ passes. (way : Way) (service : ℕ) (met : List (List ℕ)) → Served way service self.old met
+            → left_by passes packet.new ≡ made_of way service met packet.old) }
+        ensures stands { OnOk result ((way : Way) (service : ℕ) (met : List (List ℕ)) → Served way service self.old met
+            → Served way service self.new (met ++ packet.old ∷ [])) }
+        ensures as_it_was { OnErr result (packet.new ≡ packet.old) }
+        ensures way { self.new.way ≡ self.old.way }
+        ensures service { self.new.service ≡ self.old.service }
+        ensures stuffing { self.new.stuffing ≡ self.old.stuffing }
+        ensures failed { self.new.failed ≡ self.old.failed }
+    {
+        let fate = self.follower.meet(self.alloc, at, packet)?;
+        let force = &mut self.follower.force;
+        let passes = self.editors.edit(self.alloc, at, fate, force, packet)?;
+        Ok(passes)
+    }
+}
+
+impl Steps for ServiceSteps {
+    ghost use Rattle.std.specs.Prelude.{None, refl};
+    ghost use Rattle.ts_packet.specs.Cells.{live_packets};
+    ghost use Rattle.plug_service.specs.ServiceState.{StandsFor, rule_of};
+
+    ghost rule = { λ s. rule_of s };
+
+    ghost stands_for = { λ s history. StandsFor s (live_packets history) };
+
+    ghost steady = { λ _. None };
+
+    #[inline]
+    fn step(&mut self, at: u64, packet: &mut Packet, _labels: &mut Labels) -> Outcome {
+        match self.take(at, packet) {
+            Ok(true) => Outcome::Pass,
+            Ok(false) => {
+                if !self.stuffing {
+                    return Outcome::Drop;
+                }
+                *packet = Packet::null();
+                Outcome::Pass
+            }
+            Err(_) => Outcome::NoMemory,
+        }
+    }
+
+    fn pass_over(&mut self, _at: u64) {}
+
+    fn has_fault(&self, _cut: u64) -> bool {
+        false
+    }
+
+    ghost quiet = { λ plugin. record { no_lines = λ history packet labels. refl; no_summary = λ history. refl } };
+
+    ghost never_agrees = { λ plugin history. refl };
+}

@@ -1,0 +1,70 @@
+//! The options of `svremove`, and its settings from their values.
+
+use crate::limits::LAST_SERVICE;
+use crate::service_words::service_settings;
+use crate::svremove_conf::SvremoveConf;
+use option_words::{
+    Beside, Need, OptionRow, OptionText, OptionWord, ParsedOptions, Refusal, Takes,
+};
+use plugin_entry::{PluginHelp, PluginSettings};
+use std::alloc::Global;
+
+// The options of `svremove`.
+static SVREMOVE: [OptionRow; 2] = [
+    OptionRow {
+        word: OptionWord::Operand("operand", Takes::Number(1, LAST_SERVICE)),
+        text: OptionText {
+            value: "N",
+            meaning: "1 to 65535: the service's number in the PAT, which info reports beside its name",
+            need: Need::Required,
+            beside: Beside::Any,
+        },
+    },
+    OptionRow {
+        word: OptionWord::Flag("stuffing"),
+        text: OptionText {
+            value: "",
+            meaning: "put a null packet in the place of each packet that is dropped",
+            need: Need::Free,
+            beside: Beside::Any,
+        },
+    },
+];
+
+impl PluginSettings for SvremoveConf {
+    ghost use Rattle.std.specs.Prelude.{refl};
+    ghost use Rattle.plug_service.specs.SvremoveEntry.{svremove_entry};
+
+    ghost entry = { svremove_entry };
+
+    fn name() -> &'static str {
+        "svremove"
+    }
+
+    fn options() -> &'static [OptionRow<'static>] {
+        &SVREMOVE
+    }
+
+    fn help() -> PluginHelp {
+        PluginHelp {
+            usage: "-P svremove N [--stuffing]",
+            rule: "The PAT and the SDT lose the service, and its PMT is dropped with those of its PIDs above 31 that no other service has; all else passes. It goes by the tables in force, so it follows a service whose PIDs change under a new version.",
+        }
+    }
+
+    fn read(_alloc: Global, found: &ParsedOptions) -> Result<SvremoveConf, Refusal> {
+        Ok(SvremoveConf {
+            service: service_settings(found)?,
+        })
+    }
+
+    fn table_file(&self) -> Option<&str> {
+        None
+    }
+
+    fn uses_joint_termination(&self) -> bool {
+        false
+    }
+
+    ghost simple = { refl };
+}

@@ -1,0 +1,70 @@
+//! The options of `zap`, and its settings from their values.
+
+use crate::limits::LAST_SERVICE;
+use crate::service_words::service_settings;
+use crate::zap_conf::ZapConf;
+use option_words::{
+    Beside, Need, OptionRow, OptionText, OptionWord, ParsedOptions, Refusal, Takes,
+};
+use plugin_entry::{PluginHelp, PluginSettings};
+use std::alloc::Global;
+
+// The options of `zap`.
+static ZAP: [OptionRow; 2] = [
+    OptionRow {
+        word: OptionWord::Operand("operand", Takes::Number(1, LAST_SERVICE)),
+        text: OptionText {
+            value: "N",
+            meaning: "1 to 65535: the service's number in the PAT, which info reports beside its name",
+            need: Need::Required,
+            beside: Beside::Any,
+        },
+    },
+    OptionRow {
+        word: OptionWord::Flag("stuffing"),
+        text: OptionText {
+            value: "",
+            meaning: "put a null packet in the place of each packet that is dropped",
+            need: Need::Free,
+            beside: Beside::Any,
+        },
+    },
+];
+
+impl PluginSettings for ZapConf {
+    ghost use Rattle.std.specs.Prelude.{refl};
+    ghost use Rattle.plug_service.specs.ZapEntry.{zap_entry};
+
+    ghost entry = { zap_entry };
+
+    fn name() -> &'static str {
+        "zap"
+    }
+
+    fn options() -> &'static [OptionRow<'static>] {
+        &ZAP
+    }
+
+    fn help() -> PluginHelp {
+        PluginHelp {
+            usage: "-P zap N [--stuffing]",
+            rule: "The PAT and the SDT have the service alone, its PMT stays, and so do the PIDs of its components, of its PCR and of its ECMs; all else is dropped, NIT, EIT and TDT too, also before the first PAT and PMT are complete. It goes by the tables in force, so it follows a service whose PIDs change under a new version. Of a number that the PAT does not have, an empty PAT and SDT are left.",
+        }
+    }
+
+    fn read(_alloc: Global, found: &ParsedOptions) -> Result<ZapConf, Refusal> {
+        Ok(ZapConf {
+            service: service_settings(found)?,
+        })
+    }
+
+    fn table_file(&self) -> Option<&str> {
+        None
+    }
+
+    fn uses_joint_termination(&self) -> bool {
+        false
+    }
+
+    ghost simple = { refl };
+}

@@ -1,0 +1,2 @@
+-- The definitions of what is said of a plugin.
+pub mod PluginEntry
