@@ -1,7 +1,7 @@
 """Reads the texts of help, man/tsp.help, man/tstabcomp.help, man/tsswitch.help and man/plugins/NAME.help, and what the code says
 of the segments of a command line, of which tools/texts makes most of them.
 
-What the code says is the end of crates/explain_rows/stdout, which the gate compares with what is printed of the tables of options:
+What the code says is the end of crates/test_explain/stdout, which the gate compares with what is printed of the tables of options:
 
     help of -P NAME:
     usage: -P NAME [--option N] ..
@@ -118,7 +118,7 @@ def plugin(name, text):
 
 def plugin_names():
     """The plugins in the order in which the code lists them."""
-    listed = (TOP / "crates/plug_set/plugins.txt").read_text(encoding="utf-8").splitlines()
+    listed = (TOP / "crates/plugin_set/plugins.txt").read_text(encoding="utf-8").splitlines()
     return [line.split()[0] for line in listed if line.strip() and not line.startswith("#")]
 
 
@@ -147,7 +147,7 @@ def segment(head, usage, lines):
 @functools.lru_cache(None)
 def segments():
     """All that the code says of segments, in its order."""
-    _, first, said = (TOP / "crates/explain_rows/stdout").read_text(encoding="utf-8").partition(FIRST)
+    _, first, said = (TOP / "crates/test_explain/stdout").read_text(encoding="utf-8").partition(FIRST)
     heads = re.split(r"(?m)^(?=help of )", first + said)
     return [segment(head, usage, lines) for head, usage, *lines in (it.splitlines() for it in heads if it)]
 

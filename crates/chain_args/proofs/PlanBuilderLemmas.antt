@@ -6,16 +6,16 @@ use Rattle.std.proofs.lemmas.Bool.Decides.{nat_tests}
 use Rattle.std.proofs.lemmas.List.Elements.{All-push, filter_map-append}
 use Rattle.std.proofs.lemmas.List.Folds.{list_any-append}
 use Rattle.std.proofs.lemmas.List.Sums.{sum_by_push}
-use Rattle.plug_set.specs.Items.{IsLawfulItem}
-use Rattle.plug_set.specs.declared.plugin_item.PluginItem.{PluginItem}
+use Rattle.plugin_set.specs.Items.{IsValidItem}
+use Rattle.plugin_set.specs.declared.plugin_item.PluginItem.{PluginItem}
 use Rattle.chain_args.specs.Inputs.{input_kind_named, options_of_input}
-use Rattle.chain_args.specs.LawfulPlan.{IsLawfulInput}
+use Rattle.chain_args.specs.ValidPlan.{IsValidInput}
 use Rattle.chain_args.specs.Outputs.{output_kind_named, options_of_output}
 use Rattle.chain_args.specs.PlanBuilder.{StandsFor, segment}
 use Rattle.chain_args.specs.PlanOf.{input_made, inputs_of, output_made, outputs_of, plugin_made}
-use Rattle.plug_set.specs.Items.{options_of_item}
-use Rattle.plug_set.specs.Plugins.{plugin_kind_named}
-use Rattle.option_words.specs.OptionTable.{broken_option, first_broken, settings_of}
+use Rattle.plugin_set.specs.Items.{options_of_item}
+use Rattle.plugin_set.specs.Plugins.{plugin_kind_named}
+use Rattle.plugin_options.specs.OptionTable.{broken_option, first_broken, settings_of}
 use Rattle.chain_args.specs.Rules.{broken_rule, most_plugins, or_else}
 use Rattle.chain_args.specs.Segments.{Segment, is_input, is_output, is_plugin}
 use Rattle.chain_args.specs.declared.input_conf.InputConf.{InputConf}
@@ -23,9 +23,9 @@ use Rattle.chain_args.specs.declared.input_words.InputKind.{InputKind}
 use Rattle.chain_args.specs.declared.output_conf.OutputConf.{OutputConf}
 use Rattle.chain_args.specs.declared.output_words.OutputKind.{OutputKind}
 use Rattle.chain_args.specs.declared.plan_builder.PlanBuilder.{PlanBuilder}
-use Rattle.plug_set.specs.declared.plugin_conf.PluginKind.{PluginKind}
-use Rattle.option_words.specs.declared.words_rule.WordsRule.{WordsRule}
-use Rattle.option_words.specs.declared.words_rule.WordsRule.TheVariants.{NoName, TooMany, Twice, UnknownPlugin}
+use Rattle.plugin_set.specs.declared.plugin_conf.PluginKind.{PluginKind}
+use Rattle.plugin_options.specs.declared.words_rule.WordsRule.{WordsRule}
+use Rattle.plugin_options.specs.declared.words_rule.WordsRule.TheVariants.{NoName, TooMany, Twice, UnknownPlugin}
 
 or_none : (rule : Option WordsRule) → or_else rule None ≡ rule
 or_none None = refl
@@ -88,9 +88,9 @@ none_first (x ∷ xs) o e h = let bad : true ≡ false = ap is_some (sym e) ∙ 
 -- ---- the parts with one more
 
 pub input_added : (p : PlanBuilder) (before : List Segment) (others own : List (List ℕ)) (name : List ℕ) (k : InputKind) (conf : InputConf) → StandsFor p before → is_some p.input ≡ false
-    → others ≡ name ∷ own → Some k ≡ input_kind_named name → (broken_option (options_of_input k) own ≡ None) × (conf ≡ settings_of (options_of_input k) own) → IsLawfulInput conf
+    → others ≡ name ∷ own → Some k ≡ input_kind_named name → (broken_option (options_of_input k) own ≡ None) × (conf ≡ settings_of (options_of_input k) own) → IsValidInput conf
     → (broken_rule before (segment (codes "-I") others) ≡ None) × StandsFor (record { input = Some conf; plugins = p.plugins; output = p.output }) (before ++ segment (codes "-I") others ∷ [])
-input_added p before others own name k conf stands free is known read lawful =
+input_added p before others own name k conf stands free is known read valid =
     let s : Segment = segment (codes "-I") others in
     let once : list_any is_input before ≡ false = sym stands.has_input ∙ free in
     let made : input_made s ≡ Some conf =
@@ -103,8 +103,8 @@ input_added p before others own name k conf stands free is known read lawful =
         plugin_count = stands.plugin_count ∙ sym (count_keeps is_plugin before s refl);
         output = stands.output ∙ sym (ap (λ xs. slice_get xs 0) (keeps output_made before s refl));
         has_output = stands.has_output ∙ sym (any_keeps is_output before s refl);
-        lawful_input = lawful;
-        lawful_plugins = stands.lawful_plugins;
+        valid_input = valid;
+        valid_plugins = stands.valid_plugins;
         few = stands.few;
       },
     )
@@ -125,17 +125,17 @@ output_added p before others own name k conf stands free is known read =
         plugin_count = stands.plugin_count ∙ sym (count_keeps is_plugin before s refl);
         output = sym (ap (λ xs. slice_get xs 0) (gains output_made before s conf made ∙ ap (λ xs. xs ++ conf ∷ []) (none_first (outputs_of before) p.output stands.output free)));
         has_output = sym (any_gains is_output before s refl);
-        lawful_input = stands.lawful_input;
-        lawful_plugins = stands.lawful_plugins;
+        valid_input = stands.valid_input;
+        valid_plugins = stands.valid_plugins;
         few = stands.few;
       },
     )
 
 pub plugin_added : (p q : PlanBuilder) (before : List Segment) (others own : List (List ℕ)) (name : List ℕ) (k : PluginKind) (conf : PluginItem) → StandsFor p before → length p.plugins.items < most_plugins
-    → others ≡ name ∷ own → Some k ≡ plugin_kind_named name → (broken_option (options_of_item k) own ≡ None) × (conf ≡ settings_of (options_of_item k) own) → IsLawfulItem conf
+    → others ≡ name ∷ own → Some k ≡ plugin_kind_named name → (broken_option (options_of_item k) own ≡ None) × (conf ≡ settings_of (options_of_item k) own) → IsValidItem conf
     → q.input ≡ p.input → q.output ≡ p.output → q.plugins.items ≡ p.plugins.items ++ conf ∷ []
     → (broken_rule before (segment (codes "-P") others) ≡ None) × StandsFor q (before ++ segment (codes "-P") others ∷ [])
-plugin_added p q before others own name k conf stands room is known read lawful same_in same_out pushed =
+plugin_added p q before others own name k conf stands room is known read valid same_in same_out pushed =
     let s : Segment = segment (codes "-P") others in
     let few : nat_le most_plugins (count_by is_plugin before) ≡ false = grind (arith, nat_tests, stands.plugin_count) in
     let made : plugin_made s ≡ Some conf =
@@ -148,8 +148,8 @@ plugin_added p q before others own name k conf stands room is known read lawful 
         plugin_count = ap length pushed ∙ length-append p.plugins.items (conf ∷ []) ∙ ap (λ n. n + 1) stands.plugin_count ∙ sym (count_gains is_plugin before s refl);
         output = same_out ∙ stands.output ∙ sym (ap (λ xs. slice_get xs 0) (keeps output_made before s refl));
         has_output = ap is_some same_out ∙ stands.has_output ∙ sym (any_keeps is_output before s refl);
-        lawful_input = subst (λ o. IfSome o IsLawfulInput) (sym same_in) stands.lawful_input;
-        lawful_plugins = subst (All IsLawfulItem) (sym pushed) (All-push IsLawfulItem p.plugins.items conf stands.lawful_plugins lawful);
+        valid_input = subst (λ o. IfSome o IsValidInput) (sym same_in) stands.valid_input;
+        valid_plugins = subst (All IsValidItem) (sym pushed) (All-push IsValidItem p.plugins.items conf stands.valid_plugins valid);
         few = omega (arith, ap length pushed, length-append p.plugins.items (conf ∷ []));
       },
     )

@@ -5,17 +5,17 @@ use Rattle.std.specs.Result.{IfErr, IsErrAnd}
 use Rattle.chain_args.specs.General.{general}
 use Rattle.chain_args.specs.PlanBuilder.{RefusesBy, StandsFor, parts_plan, segment}
 use Rattle.chain_args.specs.PlanOf.{plan_made, plan_of}
-use Rattle.option_words.specs.OptionTable.{OptionTable, broken_option, settings_of}
-use Rattle.option_words.specs.Refusal.{Reads}
+use Rattle.plugin_options.specs.OptionTable.{OptionTable, broken_option, settings_of}
+use Rattle.plugin_options.specs.Refusal.{Reads}
 use Rattle.chain_args.specs.Rules.{broken_rule, fault_at, first_fault, first_word_fault}
 use Rattle.chain_args.specs.Segments.{Segment, cut, general_words, is_segment_word, segments}
 use Rattle.chain_args.specs.WordsFault.{FaultsBy, fault_of_refusal}
 use Rattle.chain_args.specs.declared.general_conf.GeneralConf.{GeneralConf}
 use Rattle.chain_args.specs.declared.plan_builder.PlanBuilder.{PlanBuilder}
-use Rattle.option_words.specs.declared.refusal.Refusal.{Refusal}
-use Rattle.option_words.specs.declared.refusal.Refusal.TheVariants.{Broken, NoMemory}
+use Rattle.plugin_options.specs.declared.refusal.Refusal.{Refusal}
+use Rattle.plugin_options.specs.declared.refusal.Refusal.TheVariants.{Broken, NoMemory}
 use Rattle.chain_args.specs.declared.words_fault.WordsFault.{WordsFault}
-use Rattle.option_words.specs.declared.words_rule.WordsRule.{WordsRule}
+use Rattle.plugin_options.specs.declared.words_rule.WordsRule.{WordsRule}
 use Rattle.chain_args.proofs.SegmentLemmas.{cut-head}
 
 -- ---- one turn of the loop: words that begin with a segment

@@ -1,17 +1,17 @@
 -- Worked rows of words, on the definitions alone.
 use Rattle.std.proofs.Common.{None, ◌≡◌, [], ◌∷◌, Some, codes, false, refl}
 use Rattle.clap.proofs.OnLiterals.{clap_on_literals}
-use Rattle.plug_set.specs.declared.plugin_conf.PluginConf.TheVariants.{Filter}
-use Rattle.option_words.specs.Number.{number_of, number_within}
-use Rattle.option_words.specs.Options.{findings, has_flag, is_taken, value_of, values_of}
-use Rattle.option_words.specs.Pairs.{pair_of}
+use Rattle.plugin_set.specs.declared.plugin_conf.PluginConf.TheVariants.{Filter}
+use Rattle.plugin_options.specs.Number.{number_of, number_within}
+use Rattle.plugin_options.specs.Options.{findings, has_flag, is_taken, value_of, values_of}
+use Rattle.plugin_options.specs.Pairs.{pair_of}
 use Rattle.chain_args.specs.PlanOf.{plan_of}
-use Rattle.option_words.specs.Ranges.{range_of, ranges_of}
+use Rattle.plugin_options.specs.Ranges.{range_of, ranges_of}
 use Rattle.chain_args.specs.Rules.{first_fault, first_word_fault}
 use Rattle.chain_args.specs.Segments.{cut}
 use Rattle.chain_args.specs.declared.input_conf.InputConf.TheVariants.{Null}
 use Rattle.chain_args.specs.declared.output_conf.OutputConf.TheVariants.{Drop}
-use Rattle.option_words.specs.declared.words_rule.WordsRule.TheVariants.{Missing, Shape}
+use Rattle.plugin_options.specs.declared.words_rule.WordsRule.TheVariants.{Missing, Shape}
 
 -- `filter` with no condition
 no-condition : first_word_fault (codes "-I" ∷ codes "null" ∷ codes "2" ∷ codes "-P" ∷ codes "filter" ∷ codes "-O" ∷ codes "drop" ∷ []) ≡ Some (3, Missing)

@@ -2,11 +2,11 @@
 -- This project's own rule.
 use Rattle.std.specs.Prelude.{ℕ, List, [], ◌∷◌, codes, true, unwrap_or}
 use Rattle.clap.specs.Walk.{Row}
-use Rattle.option_words.specs.Forms.{number, pair}
-use Rattle.option_words.specs.Number.{number_within}
-use Rattle.option_words.specs.Options.{OptionRow, flag, has_flag, read_value, value}
-use Rattle.option_words.specs.Pairs.{pair_of}
-use Rattle.option_words.specs.OptionTable.{OptionTable}
+use Rattle.plugin_options.specs.Forms.{number, pair}
+use Rattle.plugin_options.specs.Number.{number_within}
+use Rattle.plugin_options.specs.Options.{OptionRow, flag, has_flag, read_value, value}
+use Rattle.plugin_options.specs.Pairs.{pair_of}
+use Rattle.plugin_options.specs.OptionTable.{OptionTable}
 use Rattle.chain_args.specs.declared.general_conf.GeneralConf.{GeneralConf}
 
 -- the byte `/`

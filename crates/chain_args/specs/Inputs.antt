@@ -2,13 +2,13 @@
 -- This project's own rule.
 use Rattle.std.specs.Prelude.{ℕ, ◌&&◌, Bool, is_some, List, [], ◌∷◌, None, Option, Some, codes, if◌then◌else◌, true, unwrap_or}
 use Rattle.std.specs.Str.{bytes_eq}
-use Rattle.plug_conf.specs.declared.limits.TheConstants.{MOST_PACKETS}
+use Rattle.plugin_options.specs.declared.limits.TheConstants.{MOST_PACKETS}
 use Rattle.packet_forms.specs.declared.forms.Form.{Form}
 use Rattle.packet_forms.specs.declared.forms.Form.TheVariants.{Ts, M2ts, Rs204}
-use Rattle.option_words.specs.Forms.{known, number, text}
-use Rattle.option_words.specs.Number.{number_within}
-use Rattle.option_words.specs.Options.{has_value, operand, read_value, value, value_of}
-use Rattle.option_words.specs.OptionTable.{OptionTable}
+use Rattle.plugin_options.specs.Forms.{known, number, text}
+use Rattle.plugin_options.specs.Number.{number_within}
+use Rattle.plugin_options.specs.Options.{has_value, operand, read_value, value, value_of}
+use Rattle.plugin_options.specs.OptionTable.{OptionTable}
 use Rattle.chain_args.specs.declared.input_conf.TheConstants.{MOST_SEED}
 use Rattle.chain_args.specs.declared.input_words.InputKind.{InputKind}
 use Rattle.chain_args.specs.declared.input_words.InputKind.TheVariants as kind

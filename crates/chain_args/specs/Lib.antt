@@ -1,7 +1,7 @@
 -- The definitions of the command line of `tsp`: its words, its plan and its faults.
 pub mod General
 pub mod Inputs
-pub mod LawfulPlan
+pub mod ValidPlan
 pub mod Outputs
 pub mod PlanBuilder
 pub mod PlanOf

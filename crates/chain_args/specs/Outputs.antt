@@ -2,9 +2,9 @@
 -- This project's own rule.
 use Rattle.std.specs.Prelude.{ℕ, List, [], ◌∷◌, None, Option, Some, codes, if◌then◌else◌, true, unwrap_or}
 use Rattle.std.specs.Str.{bytes_eq}
-use Rattle.option_words.specs.Forms.{text}
-use Rattle.option_words.specs.Options.{operand, value_of}
-use Rattle.option_words.specs.OptionTable.{OptionTable}
+use Rattle.plugin_options.specs.Forms.{text}
+use Rattle.plugin_options.specs.Options.{operand, value_of}
+use Rattle.plugin_options.specs.OptionTable.{OptionTable}
 use Rattle.chain_args.specs.declared.output_words.OutputKind.{OutputKind}
 use Rattle.chain_args.specs.declared.output_words.OutputKind.TheVariants as kind
 use Rattle.chain_args.specs.declared.output_conf.OutputConf.{OutputConf}

@@ -2,8 +2,8 @@
 -- This project's own rule.
 use Rattle.std.specs.Prelude.{◌≡◌, ◌≤◌, ℕ, List, [], Option, Some, IfSome, count_by, is_some, length, slice_get, unwrap_or}
 use Rattle.std.specs.List.{All, list_any}
-use Rattle.plug_set.specs.Items.{IsLawfulItem}
-use Rattle.chain_args.specs.LawfulPlan.{IsLawfulInput}
+use Rattle.plugin_set.specs.Items.{IsValidItem}
+use Rattle.chain_args.specs.ValidPlan.{IsValidInput}
 use Rattle.chain_args.specs.PlanOf.{inputs_of, outputs_of, plugins_of}
 use Rattle.chain_args.specs.Rules.{most_plugins}
 use Rattle.chain_args.specs.Segments.{Segment, is_input, is_output, is_plugin}
@@ -13,9 +13,9 @@ use Rattle.packet_forms.specs.declared.forms.Form.TheVariants.{Ts}
 use Rattle.chain_args.specs.declared.output_conf.OutputConf.TheVariants as output
 use Rattle.chain_args.specs.declared.plan_builder.PlanBuilder.{PlanBuilder}
 use Rattle.chain_args.specs.declared.plan_type.Plan.{Plan}
-use Rattle.option_words.specs.declared.refusal.Refusal.{Refusal}
-use Rattle.option_words.specs.declared.refusal.Refusal.TheVariants.{Broken, NoMemory}
-use Rattle.option_words.specs.declared.words_rule.WordsRule.{WordsRule}
+use Rattle.plugin_options.specs.declared.refusal.Refusal.{Refusal}
+use Rattle.plugin_options.specs.declared.refusal.Refusal.TheVariants.{Broken, NoMemory}
+use Rattle.plugin_options.specs.declared.words_rule.WordsRule.{WordsRule}
 
 -- a segment with a first word and other words
 abbrev pub segment : List ℕ → List (List ℕ) → Segment
@@ -34,8 +34,8 @@ pub record StandsFor (p : PlanBuilder) (before : List Segment) : Type 0 where
   pub plugin_count : length p.plugins.items ≡ count_by is_plugin before
   pub output : p.output ≡ slice_get (outputs_of before) 0
   pub has_output : is_some p.output ≡ list_any is_output before
-  pub lawful_input : IfSome p.input IsLawfulInput
-  pub lawful_plugins : All IsLawfulItem p.plugins.items
+  pub valid_input : IfSome p.input IsValidInput
+  pub valid_plugins : All IsValidItem p.plugins.items
   pub few : length p.plugins.items ≤ most_plugins
 
 -- the plan of the parts, with the standard streams where no input or no output was named

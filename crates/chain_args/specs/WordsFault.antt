@@ -2,12 +2,12 @@
 -- This project's own rule.
 use Rattle.std.specs.Prelude.{◌≡◌, ℕ, List, Option, Some}
 use Rattle.chain_args.specs.Rules.{first_word_fault}
-use Rattle.option_words.specs.declared.refusal.Refusal.{Refusal}
-use Rattle.option_words.specs.declared.refusal.Refusal.TheVariants.{Broken}
-use Rattle.option_words.specs.declared.refusal.Refusal.TheVariants as refusal
+use Rattle.plugin_options.specs.declared.refusal.Refusal.{Refusal}
+use Rattle.plugin_options.specs.declared.refusal.Refusal.TheVariants.{Broken}
+use Rattle.plugin_options.specs.declared.refusal.Refusal.TheVariants as refusal
 use Rattle.chain_args.specs.declared.words_fault.WordsFault.{WordsFault}
 use Rattle.chain_args.specs.declared.words_fault.WordsFault.TheVariants.{At, NoMemory}
-use Rattle.option_words.specs.declared.words_rule.WordsRule.{WordsRule}
+use Rattle.plugin_options.specs.declared.words_rule.WordsRule.{WordsRule}
 
 -- memory ran out, or this is the word and the rule
 abbrev pub FaultsBy : Option (ℕ × WordsRule) → WordsFault → Type 0

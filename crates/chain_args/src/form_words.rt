@@ -2,14 +2,14 @@
 
 ghost use Rattle.std.specs.Prelude.{◌≡◌, MatchResult, codes, false, true, unwrap_or};
 ghost use Rattle.chain_args.specs.Inputs.{form_named, is_form};
-ghost use Rattle.option_words.specs.Forms.{known};
-ghost use Rattle.option_words.specs.Options.{is_formed, read_value};
-ghost use Rattle.option_words.specs.Refusal.{IsRefusedBy};
-ghost use Rattle.option_words.specs.declared.words_rule.WordsRule.TheVariants.{Value};
+ghost use Rattle.plugin_options.specs.Forms.{known};
+ghost use Rattle.plugin_options.specs.Options.{is_formed, read_value};
+ghost use Rattle.plugin_options.specs.Refusal.{IsRefusedBy};
+ghost use Rattle.plugin_options.specs.declared.words_rule.WordsRule.TheVariants.{Value};
 ghost use Rattle.packet_forms.specs.declared.forms.Form.TheVariants.{Ts};
 
-use option_words::{ParsedOptions, Refusal, WordsRule};
 use packet_forms::Form;
+use plugin_options::{ParsedOptions, Refusal, WordsRule};
 
 /// The form with this name; `None` where there is none.
 fn form_of(name: &str) -> Option<Form>

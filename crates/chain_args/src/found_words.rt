@@ -3,12 +3,12 @@
 ghost use Rattle.std.specs.Prelude.{◌≡◌, MatchResult, false, map, true};
 ghost use Rattle.std.specs.String.{string_bytes};
 ghost use Rattle.clap.specs.Faults.{is_simple_and_free};
-ghost use Rattle.option_words.specs.OptionWords.{rows_of_options};
-ghost use Rattle.option_words.specs.Options.{command_of, findings, is_taken};
-ghost use Rattle.option_words.specs.Refusal.{IsRefusedBy};
-ghost use Rattle.option_words.specs.declared.words_rule.WordsRule.TheVariants.{Shape};
+ghost use Rattle.plugin_options.specs.OptionWords.{rows_of_options};
+ghost use Rattle.plugin_options.specs.Options.{command_of, findings, is_taken};
+ghost use Rattle.plugin_options.specs.Refusal.{IsRefusedBy};
+ghost use Rattle.plugin_options.specs.declared.words_rule.WordsRule.TheVariants.{Shape};
 
-use option_words::{OptionRow, ParsedOptions, Refusal, command_with};
+use plugin_options::{OptionRow, ParsedOptions, Refusal, command_with};
 use std::alloc::Global;
 
 /// What the command of these options finds in the words; the rule `Shape` is broken exactly where it does not take

@@ -3,13 +3,13 @@
 ghost use Rattle.std.specs.Prelude.{◌≡◌, IfOk, map};
 ghost use Rattle.std.specs.String.{string_bytes};
 ghost use Rattle.chain_args.specs.General.{general};
-ghost use Rattle.chain_args.specs.LawfulPlan.{IsLawfulGeneral};
-ghost use Rattle.option_words.specs.OptionWords.{rows_of_options};
-ghost use Rattle.option_words.specs.Refusal.{Reads, ReadsParsed};
+ghost use Rattle.chain_args.specs.ValidPlan.{IsValidGeneral};
+ghost use Rattle.plugin_options.specs.OptionWords.{rows_of_options};
+ghost use Rattle.plugin_options.specs.Refusal.{Reads, ReadsParsed};
 
 use crate::found_words::found_words;
 use crate::general_conf::GeneralConf;
-use option_words::{
+use plugin_options::{
     Beside, Need, OptionRow, OptionText, OptionWord, ParsedOptions, Refusal, SegmentHelp, Sign,
     Takes,
 };
@@ -93,7 +93,7 @@ static GENERAL: [OptionRow; 7] = [
 
 fn general_settings(found: &ParsedOptions) -> Result<GeneralConf, Refusal>
     ensures reads { ReadsParsed general found.now result }
-    ensures lawful { IfOk result IsLawfulGeneral }
+    ensures valid { IfOk result IsValidGeneral }
 {
     let most = MOST_SIZE;
     let add_start_stuffing = found.number_or("add-start-stuffing", 0, most, 0)?;
@@ -116,7 +116,7 @@ fn general_settings(found: &ParsedOptions) -> Result<GeneralConf, Refusal>
 /// Reads the general options: the words before the first segment.
 pub(crate) fn read_general(alloc: Global, words: &[String]) -> Result<GeneralConf, Refusal>
     ensures reads { Reads general (map string_bytes words.now) result }
-    ensures lawful { IfOk result IsLawfulGeneral }
+    ensures valid { IfOk result IsValidGeneral }
 {
     let found = found_words(alloc, &GENERAL, words)?;
     general_settings(&found)

@@ -4,20 +4,19 @@ ghost use Rattle.std.specs.Prelude.{◌≡◌, IfOk, map, option_map};
 ghost use Rattle.std.specs.String.{string_bytes};
 ghost use Rattle.clap.specs.Simple.{app_of};
 ghost use Rattle.chain_args.specs.Inputs.{file_input, input_kind_named, null_input, options_of_input, testgen_input};
-ghost use Rattle.chain_args.specs.LawfulPlan.{IsLawfulInput};
-ghost use Rattle.option_words.specs.Options.{command_of};
-ghost use Rattle.option_words.specs.OptionTable.{OptionTable};
-ghost use Rattle.option_words.specs.OptionWords.{rows_of_options};
-ghost use Rattle.option_words.specs.Refusal.{Reads, ReadsParsed};
+ghost use Rattle.chain_args.specs.ValidPlan.{IsValidInput};
+ghost use Rattle.plugin_options.specs.Options.{command_of};
+ghost use Rattle.plugin_options.specs.OptionTable.{OptionTable};
+ghost use Rattle.plugin_options.specs.OptionWords.{rows_of_options};
+ghost use Rattle.plugin_options.specs.Refusal.{Reads, ReadsParsed};
 
 use crate::form_words::read_format;
 use crate::found_words::found_words;
 use crate::input_conf::{InputConf, MOST_SEED};
-use option_words::{
-    Beside, Need, OptionRow, OptionText, OptionWord, ParsedOptions, Refusal, SegmentHelp, Takes,
-    WordsRule,
+use plugin_options::{
+    Beside, MOST_PACKETS, Need, OptionRow, OptionText, OptionWord, ParsedOptions, Refusal,
+    SegmentHelp, Takes, WordsRule,
 };
-use plug_conf::MOST_PACKETS;
 use std::alloc::Global;
 
 /// The kinds of inputs.
@@ -44,7 +43,7 @@ impl InputKind {
     /// Reads the words after the name.
     pub(crate) fn read(self, alloc: Global, words: &[String]) -> Result<InputConf, Refusal>
         ensures reads { Reads (options_of_input self) (map string_bytes words.now) result }
-        ensures lawful { IfOk result IsLawfulInput }
+        ensures valid { IfOk result IsValidInput }
     {
         match self {
             InputKind::File => read_file(alloc, words),
@@ -78,7 +77,7 @@ static FILE: [OptionRow; 2] = [
 
 fn read_file(alloc: Global, words: &[String]) -> Result<InputConf, Refusal>
     ensures reads { Reads file_input (map string_bytes words.now) result }
-    ensures lawful { IfOk result IsLawfulInput }
+    ensures valid { IfOk result IsValidInput }
 {
     let found = found_words(alloc, &FILE, words)?;
     file_settings(alloc, &found)
@@ -86,7 +85,7 @@ fn read_file(alloc: Global, words: &[String]) -> Result<InputConf, Refusal>
 
 fn file_settings(alloc: Global, found: &ParsedOptions) -> Result<InputConf, Refusal>
     ensures reads { ReadsParsed file_input found.now result }
-    ensures lawful { IfOk result IsLawfulInput }
+    ensures valid { IfOk result IsValidInput }
 {
     let form = read_format(found)?;
     Ok(InputConf::File {
@@ -108,7 +107,7 @@ static NULL: [OptionRow; 1] = [OptionRow {
 
 fn read_null(alloc: Global, words: &[String]) -> Result<InputConf, Refusal>
     ensures reads { Reads null_input (map string_bytes words.now) result }
-    ensures lawful { IfOk result IsLawfulInput }
+    ensures valid { IfOk result IsValidInput }
 {
     let found = found_words(alloc, &NULL, words)?;
     null_settings(&found)
@@ -116,7 +115,7 @@ fn read_null(alloc: Global, words: &[String]) -> Result<InputConf, Refusal>
 
 fn null_settings(found: &ParsedOptions) -> Result<InputConf, Refusal>
     ensures reads { ReadsParsed null_input found.now result }
-    ensures lawful { IfOk result IsLawfulInput }
+    ensures valid { IfOk result IsValidInput }
 {
     if !found.has_value("count") {
         return Err(Refusal::Broken(WordsRule::Missing));
@@ -149,7 +148,7 @@ static TESTGEN: [OptionRow; 2] = [
 
 fn read_testgen(alloc: Global, words: &[String]) -> Result<InputConf, Refusal>
     ensures reads { Reads testgen_input (map string_bytes words.now) result }
-    ensures lawful { IfOk result IsLawfulInput }
+    ensures valid { IfOk result IsValidInput }
 {
     let found = found_words(alloc, &TESTGEN, words)?;
     testgen_settings(&found)
@@ -157,7 +156,7 @@ fn read_testgen(alloc: Global, words: &[String]) -> Result<InputConf, Refusal>
 
 fn testgen_settings(found: &ParsedOptions) -> Result<InputConf, Refusal>
     ensures reads { ReadsParsed testgen_input found.now result }
-    ensures lawful { IfOk result IsLawfulInput }
+    ensures valid { IfOk result IsValidInput }
 {
     if !found.has_value("seed") {
         return Err(Refusal::Broken(WordsRule::Missing));

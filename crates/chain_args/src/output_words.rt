@@ -3,13 +3,15 @@
 ghost use Rattle.std.specs.Prelude.{◌≡◌, map};
 ghost use Rattle.std.specs.String.{string_bytes};
 ghost use Rattle.chain_args.specs.Outputs.{drop_output, file_output, output_kind_named, options_of_output};
-ghost use Rattle.option_words.specs.OptionTable.{OptionTable};
-ghost use Rattle.option_words.specs.OptionWords.{rows_of_options};
-ghost use Rattle.option_words.specs.Refusal.{Reads};
+ghost use Rattle.plugin_options.specs.OptionTable.{OptionTable};
+ghost use Rattle.plugin_options.specs.OptionWords.{rows_of_options};
+ghost use Rattle.plugin_options.specs.Refusal.{Reads};
 
 use crate::found_words::found_words;
 use crate::output_conf::OutputConf;
-use option_words::{Beside, Need, OptionRow, OptionText, OptionWord, Refusal, SegmentHelp, Takes};
+use plugin_options::{
+    Beside, Need, OptionRow, OptionText, OptionWord, Refusal, SegmentHelp, Takes,
+};
 use std::alloc::Global;
 
 /// The kinds of outputs.

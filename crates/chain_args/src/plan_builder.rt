@@ -13,9 +13,9 @@ use crate::output_conf::OutputConf;
 use crate::output_words::OutputKind;
 use crate::plan_type::Plan;
 use crate::plugin_list::PluginList;
-use option_words::{Refusal, WordsRule};
 use packet_forms::Form;
-use plug_set::{PluginItem, PluginKind};
+use plugin_options::{Refusal, WordsRule};
+use plugin_set::{PluginItem, PluginKind};
 use std::alloc::{AllocError, Global};
 use ts_outside::NameText;
 

@@ -2,7 +2,7 @@
 
 ghost use Rattle.std.specs.Prelude.{◌≡◌, ◌+◌, ◌<◌, ◌^◌, [], IfErr, IfOk, MatchResult, None, Some, length, map};
 ghost use Rattle.std.specs.String.{string_bytes};
-ghost use Rattle.chain_args.specs.LawfulPlan.{IsLawfulPlan};
+ghost use Rattle.chain_args.specs.ValidPlan.{IsValidPlan};
 ghost use Rattle.chain_args.specs.PlanBuilder.{RefusesBy, StandsFor};
 ghost use Rattle.chain_args.specs.PlanOf.{plan_of};
 ghost use Rattle.chain_args.specs.Rules.{first_fault};
@@ -25,7 +25,7 @@ use std::alloc::Global;
 pub fn plan(alloc: Global, words: &[String]) -> Result<Plan, WordsFault>
     ensures plan { IfOk result (λ p. plan_of (map string_bytes words.now) ≡ Some p) }
     ensures fault { IfErr result (IsFirstFault (map string_bytes words.now)) }
-    ensures lawful { IfOk result IsLawfulPlan }
+    ensures valid { IfOk result IsValidPlan }
 {
     let (own, rest) = cut_at_segment(words);
     let general = match read_general(alloc, own) {

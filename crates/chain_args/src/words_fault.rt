@@ -3,7 +3,7 @@
 ghost use Rattle.std.specs.Prelude.{◌≡◌};
 ghost use Rattle.chain_args.specs.WordsFault.{fault_of_refusal};
 
-use option_words::{Refusal, WordsRule};
+use plugin_options::{Refusal, WordsRule};
 
 /// Why a command line has no plan.
 #[derive(Drop, Debug, Clone, Copy, PartialEq, Eq)]

@@ -13,9 +13,9 @@ use Rattle.chain_model.specs.declared.input_end.InputEnd.TheVariants.{End, Sync,
 use Rattle.chain_model.specs.Prefix.{IsPrefix}
 use Rattle.chain_model.specs.PluginRule.{PluginRule, passing_rule}
 use Rattle.chain_model.specs.Apply.{OwnEnd, input_over, last_passed, stopped, refused, StageList, apply}
-use Rattle.chain_model.specs.StageLists.{rule_behind, stage_list, end_list}
+use Rattle.chain_model.specs.StageLists.{rule_after, stage_list, end_list}
 use Rattle.chain_model.specs.Joint.{agreement_of, agreement_at, joint_position}
-use Rattle.chain_model.specs.Cut.{Ending, cut_of, lesser_end, is_at, cause_of_end, is_until, causes_at, first_cause, cause_among, ending_of, endings_to, endings_of, cause_of, is_fault, IsLawfulFault, IsPureClose}
+use Rattle.chain_model.specs.Cut.{Ending, cut_of, lesser_end, is_at, cause_of_end, is_until, causes_at, first_cause, cause_among, ending_of, endings_to, endings_of, cause_of, is_fault, IsValidFault, IsPureClose}
 use Rattle.chain_model.proofs.ApplyLaws.{apply-length, apply-before, apply-passes}
 use Rattle.chain_model.proofs.AgreementLaws.{agreement_of-more, agreement_of-first}
 use Rattle.chain_model.proofs.GreatestLaws.{IsKnownWithin, IsKept, greatest-all, greatest-kept}
@@ -37,22 +37,22 @@ use Rattle.chain_core.proofs.Endings.{up_to, SomeWithin, least-is, up_to-all, up
 
 -- ---- the lists of the chain
 
-rule_behind-past : (rules : List PluginRule) → rule_behind rules (length rules) ≡ passing_rule
-rule_behind-past [] = refl
-rule_behind-past (rule ∷ rules) = rule_behind-past rules
+rule_after-past : (rules : List PluginRule) → rule_after rules (length rules) ≡ passing_rule
+rule_after-past [] = refl
+rule_after-past (rule ∷ rules) = rule_after-past rules
 
 -- past the last plugin every cell passes
-pub past-passes : (rules : List PluginRule) (cells : List Cell) → ((apply (rule_behind rules (length rules)) cells).cells ≡ cells) × ((apply (rule_behind rules (length rules)) cells).ended ≡ None)
+pub past-passes : (rules : List PluginRule) (cells : List Cell) → ((apply (rule_after rules (length rules)) cells).cells ≡ cells) × ((apply (rule_after rules (length rules)) cells).ended ≡ None)
 past-passes rules cells =
     let s = apply-passes cells in (
-      ap (λ (rule : PluginRule). (apply rule cells).cells) (rule_behind-past rules) ∙ s.0,
-      ap (λ (rule : PluginRule). (apply rule cells).ended) (rule_behind-past rules) ∙ s.1,
+      ap (λ (rule : PluginRule). (apply rule cells).cells) (rule_after-past rules) ∙ s.0,
+      ap (λ (rule : PluginRule). (apply rule cells).ended) (rule_after-past rules) ∙ s.1,
     )
 
 -- what reaches the output passes it
 module _ (plan : CorePlan) (rules : List PluginRule) (input : StageList) (plugins : length rules ≡ plan.plugins) where
-  behind : rule_behind rules plan.plugins ≡ passing_rule
-  behind = ap (rule_behind rules) (sym plugins) ∙ rule_behind-past rules
+  behind : rule_after rules plan.plugins ≡ passing_rule
+  behind = ap (rule_after rules) (sym plugins) ∙ rule_after-past rules
 
   pub output-cells : (stage_list rules input (suc plan.plugins)).cells ≡ (end_list rules input).cells
   output-cells =
@@ -69,11 +69,11 @@ module _ (plan : CorePlan) (rules : List PluginRule) (input : StageList) (plugin
     where
       lists-fall : (j k : ℕ) → k ≤ j → length (stage_list rules input j).cells ≤ length (stage_list rules input k).cells
       lists-fall j k le' =
-          falls (λ i. length (stage_list rules input i).cells) (λ i. apply-length (rule_behind rules i) (stage_list rules input i).cells) j k le'
+          falls (λ i. length (stage_list rules input i).cells) (λ i. apply-length (rule_after rules i) (stage_list rules input i).cells) j k le'
 
 pub list-falls : (rules : List PluginRule) (input : StageList) (j k : ℕ) → k ≤ j → length (stage_list rules input j).cells ≤ length (stage_list rules input k).cells
 list-falls rules input j k le =
-    falls (λ i. length (stage_list rules input i).cells) (λ i. apply-length (rule_behind rules i) (stage_list rules input i).cells) j k le
+    falls (λ i. length (stage_list rules input i).cells) (λ i. apply-length (rule_after rules i) (stage_list rules input i).cells) j k le
 
 -- ---- the joint position and the limit
 
@@ -86,7 +86,7 @@ module _ (plan : CorePlan) (rules : List PluginRule) (input : StageList) (state 
   agreed-true (suc j) user has n is =
       let l = (stage_list rules input j).cells in
       let m = gave state (suc j) in
-      ap (agreement_of (rule_behind rules j)) (sym (take-append-drop m l)) ∙ agreement_of-more (rule_behind rules j) (take m l) (drop m l) n (sym (faithful.agreed j has) ∙ is)
+      ap (agreement_of (rule_after rules j)) (sym (take-append-drop m l)) ∙ agreement_of-more (rule_after rules j) (take m l) (drop m l) n (sym (faithful.agreed j has) ∙ is)
 
   -- the limit, once known, is the joint position
   pub limit-joint : (limit : ℕ) → limit_of plan (progress_of_stages state) ≡ Some limit → joint_position rules input (stages_of plan.users) ≡ Some limit
@@ -103,13 +103,13 @@ module _ (plan : CorePlan) (rules : List PluginRule) (input : StageList) (state 
       let same : within.0 ≡ n = (let e = within.1 in cc) in
       let far : c ≤ m = reached (suc j) user.0.1 in
       let long : m ≤ length l = fits in
-      let whole : agreement_of (rule_behind rules j) (take m l ++ drop m l) ≡ Some n = ap (agreement_of (rule_behind rules j)) (take-append-drop m l) ∙ is in
-      faithful.agreed j user.1 ∙ agreement_of-first (rule_behind rules j) (take m l) (drop m l) n whole (let size = length-take-le m l long in let small = within.2 in omega arith)
+      let whole : agreement_of (rule_after rules j) (take m l ++ drop m l) ≡ Some n = ap (agreement_of (rule_after rules j)) (take-append-drop m l) ∙ is in
+      faithful.agreed j user.1 ∙ agreement_of-first (rule_after rules j) (take m l) (drop m l) n whole (let size = length-take-le m l long in let small = within.2 in omega arith)
     where
       fits : gave state (suc j) ≤ length (stage_list rules input j).cells
       fits =
           let a = prefix-length (state.stages (suc j)).given (stage_list rules input (suc j)).cells (faithful.lists (suc j)) in
-          let b = apply-length (rule_behind rules j) (stage_list rules input j).cells in omega arith
+          let b = apply-length (rule_after rules j) (stage_list rules input j).cells in omega arith
 
   -- a joint position that every stage has reached is the limit
   pub joint-limit : (c : ℕ) → ((k : ℕ) → k ≤ plan.plugins → c ≤ gave state k) → (joint : ℕ) → joint_position rules input (stages_of plan.users) ≡ Some joint → joint ≤ c → limit_of plan (progress_of_stages state) ≡ Some joint
@@ -359,7 +359,7 @@ module _ (plan : CorePlan) (rules : List PluginRule) (input : StageList) (state 
     -- a cause, and what is claimed of it
     abbrev Verdict : Cause → Type 0
     Verdict why =
-        (IsPureClose rules input (stages_of plan.users) c why ⊎ IsLawfulFault rules input (stages_of plan.users) c why)
+        (IsPureClose rules input (stages_of plan.users) c why ⊎ IsValidFault rules input (stages_of plan.users) c why)
         × IsToldCause plan (progress_of_stages state) c why
 
     abbrev pure_row : ℕ → List Ending
@@ -451,7 +451,7 @@ module _ (plan : CorePlan) (rules : List PluginRule) (input : StageList) (state 
     none-behind none k at (suc i) lt le =
         elim (list-cases c (suc i) (stage_list rules input (suc i))) [
           | inl empty ↦ empty
-          | inr (own, is, at') ↦ (let less = apply-before (rule_behind rules i) (stage_list rules input i).cells own (other own is at') is in let fall = list-falls rules input i k (omega arith) in absurd (omega arith))
+          | inr (own, is, at') ↦ (let less = apply-before (rule_after rules i) (stage_list rules input i).cells own (other own is at') is in let fall = list-falls rules input i k (omega arith) in absurd (omega arith))
         ]
       where
         other : (own : OwnEnd) → (stage_list rules input (suc i)).ended ≡ Some own → length (stage_list rules input (suc i)).cells ≡ c → own ≢ last_passed
@@ -476,7 +476,7 @@ module _ (plan : CorePlan) (rules : List PluginRule) (input : StageList) (state 
               | inr apart ↦ omega arith
             ]
 
-        judged : ((own : OwnEnd) × IsEndOf (stage_list rules input k) (state.stages k).given own × (why ≡ cause_of_end k own)) ⊎ IsTrue (is_fault why) → IsPureClose rules input (stages_of plan.users) c why ⊎ IsLawfulFault rules input (stages_of plan.users) c why
+        judged : ((own : OwnEnd) × IsEndOf (stage_list rules input k) (state.stages k).given own × (why ≡ cause_of_end k own)) ⊎ IsTrue (is_fault why) → IsPureClose rules input (stages_of plan.users) c why ⊎ IsValidFault rules input (stages_of plan.users) c why
         judged (inl (own, e, w)) =
             let within = plugin own e in
             let at' : length (stage_list rules input k).cells ≡ c = ap length (sym e.whole) ∙ at in

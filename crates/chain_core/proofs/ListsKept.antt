@@ -9,7 +9,7 @@ use Rattle.chain_model.specs.declared.input_end.InputEnd.TheVariants.{End, Sync,
 use Rattle.chain_model.specs.Prefix.{IsPrefix}
 use Rattle.chain_model.specs.PluginRule.{PluginRule}
 use Rattle.chain_model.specs.Apply.{OwnEnd, last_passed, input_over, StageList, apply}
-use Rattle.chain_model.specs.StageLists.{rule_behind, stage_list}
+use Rattle.chain_model.specs.StageLists.{rule_after, stage_list}
 use Rattle.chain_model.specs.Joint.{agreement_of}
 use Rattle.chain_model.proofs.PrefixLemmas.{IsPrefix-trans, IsPrefix-take, IsPrefix-apply}
 use Rattle.chain_model.proofs.ApplyLaws.{apply-ended, apply-last, apply-last_some}
@@ -72,20 +72,20 @@ pub record Faithful (plan : CorePlan) (rules : List PluginRule) (input : StageLi
   pub lists : (k : ℕ) → IsPrefix (state.stages k).given (stage_list rules input k).cells
   pub ends : (k : ℕ) (end : StageEnd) → (state.stages k).ended ≡ Some end → EndsAs plan.plugins k (stage_list rules input k) (state.stages k).given end
   pub lasts_told : (k : ℕ) → IsEndOf (stage_list rules input k) (state.stages k).given last_passed → (state.stages k).ended ≡ Some Last
-  pub agreed : (j : ℕ) → has_stage plan.users (suc j) ≡ true → (state.stages (suc j)).agreed ≡ agreement_of (rule_behind rules j) (take (gave state (suc j)) (stage_list rules input j).cells)
+  pub agreed : (j : ℕ) → has_stage plan.users (suc j) ≡ true → (state.stages (suc j)).agreed ≡ agreement_of (rule_after rules j) (take (gave state (suc j)) (stage_list rules input j).cells)
 
-pub start-faithful : (plan : CorePlan) (rules : List PluginRule) (input : StageList) → ((j : ℕ) → (rule_behind rules j).agrees [] ≡ false) → input.ended ≢ Some last_passed → Faithful plan rules input start
+pub start-faithful : (plan : CorePlan) (rules : List PluginRule) (input : StageList) → ((j : ℕ) → (rule_after rules j).agrees [] ≡ false) → input.ended ≢ Some last_passed → Faithful plan rules input start
 start-faithful plan rules input late no_last = record {
   lists = (λ k. ((stage_list rules input k).cells, refl));
   ends = (λ k end is. absurd cc);
   lasts_told = (λ k e. absurd (nothing k e));
-  agreed = (λ j user. sym (agreement_of-nothing (rule_behind rules j) (late j)));
+  agreed = (λ j user. sym (agreement_of-nothing (rule_after rules j) (late j)));
 }
   where
     nothing : (k : ℕ) → IsEndOf (stage_list rules input k) [] last_passed → ⊥
     nothing zero e = no_last e.ended
     nothing (suc j) e =
-        let some = apply-last_some (rule_behind rules j) (stage_list rules input j).cells e.ended in
+        let some = apply-last_some (rule_after rules j) (stage_list rules input j).cells e.ended in
         let none = ap length e.whole in absurd (omega arith)
 
 -- an agreement as it is known after a visit
@@ -113,7 +113,7 @@ module _ (plan : CorePlan) (rules : List PluginRule) (input : StageList) (state 
   kept-list : (k : ℕ) (given : List Cell) (ended : Option StageEnd) → KeepsList plan.plugins k (list_made rules input k (took state k)) given ended → KeepsList plan.plugins k (stage_list rules input k) given ended
   kept-list zero given ended keeps = keeps
   kept-list (suc j) given ended keeps =
-      KeepsList-more (rule_behind rules j) (took state (suc j)) (stage_list rules input j).cells given plan.plugins (suc j) ended (took-prefix j) keeps
+      KeepsList-more (rule_after rules j) (took state (suc j)) (stage_list rules input j).cells given plan.plugins (suc j) ended (took-prefix j) keeps
 
   -- the cells that a plugin met are those of the list before it
   met-cells : (j n : ℕ) → n ≤ took_count state (suc j) → take n (took state (suc j)) ≡ take n (stage_list rules input j).cells
@@ -121,10 +121,10 @@ module _ (plan : CorePlan) (rules : List PluginRule) (input : StageList) (state 
       let h = sound.handed j in
       take-take n (took_count state (suc j)) (state.stages j).given le ∙ prefix-take n (state.stages j).given (stage_list rules input j).cells (faithful.lists j) (omega arith)
 
-  kept-agreement : (j : ℕ) (cells : List Cell) (told : Option ℕ) → has_stage plan.users (suc j) ≡ true → gave state (suc j) + length cells ≤ took_count state (suc j) → KeepsAgreement (rule_behind rules j) (take (gave state (suc j) + length cells) (took state (suc j))) (gave state (suc j)) told
-      → agreed_with plan (suc j) (state.stages (suc j)).agreed told ≡ agreement_of (rule_behind rules j) (take (gave state (suc j) + length cells) (stage_list rules input j).cells)
+  kept-agreement : (j : ℕ) (cells : List Cell) (told : Option ℕ) → has_stage plan.users (suc j) ≡ true → gave state (suc j) + length cells ≤ took_count state (suc j) → KeepsAgreement (rule_after rules j) (take (gave state (suc j) + length cells) (took state (suc j))) (gave state (suc j)) told
+      → agreed_with plan (suc j) (state.stages (suc j)).agreed told ≡ agreement_of (rule_after rules j) (take (gave state (suc j) + length cells) (stage_list rules input j).cells)
   kept-agreement j cells told user held keeps =
-      let rule = rule_behind rules j in
+      let rule = rule_after rules j in
       let before = gave state (suc j) in
       let now = gave state (suc j) + length cells in
       let whole = (stage_list rules input j).cells in
@@ -154,19 +154,19 @@ module _ (plan : CorePlan) (rules : List PluginRule) (input : StageList) (state 
       (subst (λ (given : List Cell). KeepsList plan.plugins visit.stage (stage_list rules input visit.stage) given visit.word.ended) (sym new-given) kept)
 
   -- the stage of the visit agrees as its rule says
-  agreed-here : (j : ℕ) → visit.stage ≡ suc j → has_stage plan.users (suc j) ≡ true → ((visited plan state visit).stages (suc j)).agreed ≡ agreement_of (rule_behind rules j) (take (gave (visited plan state visit) (suc j)) (stage_list rules input j).cells)
+  agreed-here : (j : ℕ) → visit.stage ≡ suc j → has_stage plan.users (suc j) ≡ true → ((visited plan state visit).stages (suc j)).agreed ≡ agreement_of (rule_after rules j) (take (gave (visited plan state visit) (suc j)) (stage_list rules input j).cells)
   agreed-here j at user =
       let held : gave state (suc j) + length visit.cells ≤ took_count state (suc j) = subst (λ k. gave state k + length visit.cells ≤ took_count state k) at ok.held in
-      let told : KeepsAgreement (rule_behind rules j) (take (gave state (suc j) + length visit.cells) (took state (suc j))) (gave state (suc j)) visit.word.agreed = subst (λ k. Agrees rules k (took state k) (gave state k) (gave state k + length visit.cells) visit.word.agreed) at keeps.agreement in
+      let told : KeepsAgreement (rule_after rules j) (take (gave state (suc j) + length visit.cells) (took state (suc j))) (gave state (suc j)) visit.word.agreed = subst (λ k. Agrees rules k (took state k) (gave state k) (gave state k + length visit.cells) visit.word.agreed) at keeps.agreement in
       let given : gave (visited plan state visit) (suc j) ≡ gave state (suc j) + length visit.cells = subst (λ k. gave (visited plan state visit) k ≡ gave state k + length visit.cells) at (ap length new-given ∙ length-append (state.stages visit.stage).given visit.cells) in
       let is : ((visited plan state visit).stages (suc j)).agreed ≡ agreed_with plan (suc j) (state.stages (suc j)).agreed visit.word.agreed = subst (λ k. ((visited plan state visit).stages k).agreed ≡ agreed_with plan k (state.stages k).agreed visit.word.agreed) at new-agreed in
       is ∙ (kept-agreement plan rules input state sound faithful j visit.cells visit.word.agreed user held told
-      ∙ ap (λ n. agreement_of (rule_behind rules j) (take n (stage_list rules input j).cells)) (sym given))
+      ∙ ap (λ n. agreement_of (rule_after rules j) (take n (stage_list rules input j).cells)) (sym given))
 
-  agreed-there : (j : ℕ) → suc j ≢ visit.stage → has_stage plan.users (suc j) ≡ true → ((visited plan state visit).stages (suc j)).agreed ≡ agreement_of (rule_behind rules j) (take (gave (visited plan state visit) (suc j)) (stage_list rules input j).cells)
+  agreed-there : (j : ℕ) → suc j ≢ visit.stage → has_stage plan.users (suc j) ≡ true → ((visited plan state visit).stages (suc j)).agreed ≡ agreement_of (rule_after rules j) (take (gave (visited plan state visit) (suc j)) (stage_list rules input j).cells)
   agreed-there j apart user =
       let same = visited-other plan state visit (suc j) apart in
-      ap (λ (stage : StageState). stage.agreed) same ∙ (faithful.agreed j user ∙ ap (λ (stage : StageState). agreement_of (rule_behind rules j) (take (length stage.given) (stage_list rules input j).cells)) (sym same))
+      ap (λ (stage : StageState). stage.agreed) same ∙ (faithful.agreed j user ∙ ap (λ (stage : StageState). agreement_of (rule_after rules j) (take (length stage.given) (stage_list rules input j).cells)) (sym same))
 
   -- each stage, the one of the visit or another
   each : (k : ℕ) → (IsPrefix ((visited plan state visit).stages k).given (stage_list rules input k).cells) × ((end : StageEnd) → ((visited plan state visit).stages k).ended ≡ Some end → EndsAs plan.plugins k (stage_list rules input k) ((visited plan state visit).stages k).given end) × (IsEndOf (stage_list rules input k) ((visited plan state visit).stages k).given last_passed → ((visited plan state visit).stages k).ended ≡ Some Last)
@@ -191,7 +191,7 @@ module _ (plan : CorePlan) (rules : List PluginRule) (input : StageList) (state 
   }
 
 -- every state of a run
-pub run-faithful : (plan : CorePlan) (rules : List PluginRule) (input : StageList) → ((j : ℕ) → (rule_behind rules j).agrees [] ≡ false) → input.ended ≢ Some last_passed → AreUsers plan → (visits : List Visit) → ChainRun plan visits → AllKeep plan rules input visits → Faithful plan rules input (state_after plan visits)
+pub run-faithful : (plan : CorePlan) (rules : List PluginRule) (input : StageList) → ((j : ℕ) → (rule_after rules j).agrees [] ≡ false) → input.ended ≢ Some last_passed → AreUsers plan → (visits : List Visit) → ChainRun plan visits → AllKeep plan rules input visits → Faithful plan rules input (state_after plan visits)
 unfolding state_after
 run-faithful plan rules input late no_last users [] run kept =
     start-faithful plan rules input late no_last

@@ -3,7 +3,7 @@ use Rattle.std.proofs.Common.{◌≡◌, ◌≢◌, ℕ, zero, suc, List, [], �
 use Rattle.std.specs.List.{AllByRecursion}
 use Rattle.chain_model.specs.PluginRule.{PluginRule, passing_rule}
 use Rattle.chain_model.specs.Apply.{StageList, last_passed}
-use Rattle.chain_model.specs.StageLists.{rule_behind}
+use Rattle.chain_model.specs.StageLists.{rule_after}
 use Rattle.chain_core.specs.declared.core_plan.CorePlan.{CorePlan}
 use Rattle.chain_core.specs.declared.stage_end.StageEnd.TheVariants.{Followed}
 use Rattle.chain_core.specs.Machine.{Visit, progress_of_stages}
@@ -16,7 +16,7 @@ use Rattle.chain_core.proofs.Soundness.{AreUsers, users_from, Sound, run-sound}
 use Rattle.chain_core.proofs.ListsKept.{Faithful, run-faithful}
 use Rattle.chain_core.proofs.Closing.{limit-joint, joint-limit, output-prefix, closing}
 
-agrees-late : (rules : List PluginRule) → AllByRecursion (λ (rule : PluginRule). rule.agrees [] ≡ false) rules → (j : ℕ) → (rule_behind rules j).agrees [] ≡ false
+agrees-late : (rules : List PluginRule) → AllByRecursion (λ (rule : PluginRule). rule.agrees [] ≡ false) rules → (j : ℕ) → (rule_after rules j).agrees [] ≡ false
 unfolding passing_rule
 agrees-late [] late j = refl
 agrees-late (rule ∷ rules) late zero = late.0

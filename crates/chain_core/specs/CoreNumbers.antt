@@ -11,7 +11,7 @@ use Rattle.chain_core.specs.Machine.{ChainState, progress_of_stages}
 use Rattle.chain_core.specs.Close.{ending_of_progress}
 
 -- a plan that a core can be made of
-pub record IsLawfulPlan (plan : CorePlan) : Type 0 where
+pub record IsValidPlan (plan : CorePlan) : Type 0 where
   pub plugins : plan.plugins ≤ 62
   pub some_buffer : 1 ≤ plan.buffer
   pub buffer : plan.buffer ≤ 1000000

@@ -6,7 +6,7 @@ use Rattle.chain_model.specs.PluginRule.{PluginRule}
 use Rattle.chain_model.specs.Apply.{StageList}
 use Rattle.chain_model.specs.StageLists.{stage_list, end_list}
 use Rattle.chain_model.specs.Joint.{joint_position}
-use Rattle.chain_model.specs.Cut.{IsPureClose, IsLawfulFault}
+use Rattle.chain_model.specs.Cut.{IsPureClose, IsValidFault}
 use Rattle.chain_model.specs.declared.cause.Cause.{Cause}
 use Rattle.chain_model.specs.declared.cause.Cause.TheVariants.{Joint}
 use Rattle.chain_core.specs.declared.core_plan.CorePlan.{CorePlan}
@@ -70,5 +70,5 @@ pub record AtClose (plan : CorePlan) (rules : List PluginRule) (input : StageLis
   -- the input made no more than the buffer beyond it
   pub made : length (state.stages 0).given ≤ cut + plan.buffer
   -- cut and cause are the pure ones, or a fault ended the chain where it may
-  pub pure_or_fault : IsPureClose rules input (stages_of plan.users) cut cause ⊎ IsLawfulFault rules input (stages_of plan.users) cut cause
+  pub pure_or_fault : IsPureClose rules input (stages_of plan.users) cut cause ⊎ IsValidFault rules input (stages_of plan.users) cut cause
   pub told : IsToldCause plan (progress_of_stages state) cut cause

@@ -8,7 +8,7 @@ use Rattle.chain_model.specs.declared.input_end.InputEnd.TheVariants.{End, Sync,
 use Rattle.chain_model.specs.Prefix.{IsPrefix}
 use Rattle.chain_model.specs.PluginRule.{PluginRule}
 use Rattle.chain_model.specs.Apply.{OwnEnd, input_over, last_passed, stopped, refused, StageList, apply}
-use Rattle.chain_model.specs.StageLists.{rule_behind}
+use Rattle.chain_model.specs.StageLists.{rule_after}
 use Rattle.chain_model.specs.Joint.{agreement_of}
 use Rattle.chain_core.specs.declared.core_plan.CorePlan.{CorePlan}
 use Rattle.chain_core.specs.declared.stage_end.StageEnd.{StageEnd}
@@ -52,12 +52,12 @@ pub record KeepsAgreement (rule : PluginRule) (met : List Cell) (before : ℕ) (
 -- what stage `k` makes of the cells that it took; past the plugins everything passes
 abbrev pub list_made : List PluginRule → StageList → ℕ → List Cell → StageList
 list_made rules input zero took = input
-list_made rules input (suc j) took = apply (rule_behind rules j) took
+list_made rules input (suc j) took = apply (rule_after rules j) took
 
 -- the stage reports its agreement as its rule says; the input has none
 abbrev pub Agrees : List PluginRule → ℕ → List Cell → ℕ → ℕ → Option ℕ → Type 0
 Agrees rules zero took before now told = Unit {0}
-Agrees rules (suc j) took before now told = KeepsAgreement (rule_behind rules j) (take now took) before told
+Agrees rules (suc j) took before now told = KeepsAgreement (rule_after rules j) (take now took) before told
 
 -- stage `k`, which took and gave these cells before, gives `cells` and reports the word as its list says
 pub record StageKeeps (rules : List PluginRule) (input : StageList) (plugins k : ℕ) (took given cells : List Cell)

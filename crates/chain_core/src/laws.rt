@@ -5,7 +5,7 @@ ghost use Rattle.ts_packet.specs.declared.cell.Cell.{Cell};
 ghost use Rattle.chain_model.specs.Prefix.{IsPrefix};
 ghost use Rattle.chain_model.specs.PluginRule.{PluginRule};
 ghost use Rattle.chain_model.specs.Apply.{StageList, apply};
-ghost use Rattle.chain_model.specs.StageLists.{rule_behind};
+ghost use Rattle.chain_model.specs.StageLists.{rule_after};
 ghost use Rattle.chain_core.specs.declared.core_plan.CorePlan.{CorePlan};
 ghost use Rattle.chain_core.specs.declared.stage_end.StageEnd.{StageEnd};
 ghost use Rattle.chain_core.specs.Numbers.{UsersArePlugins};
@@ -49,6 +49,6 @@ pub fn more_cells()
         → KeepsList plugins k (apply rule met) given ended
         → KeepsList plugins k (apply rule all) given ended }
     ensures passes { (rules : List PluginRule) (cells : List Cell)
-        → ((apply (rule_behind rules (length rules)) cells).cells ≡ cells)
-        × ((apply (rule_behind rules (length rules)) cells).ended ≡ None) }
+        → ((apply (rule_after rules (length rules)) cells).cells ≡ cells)
+        × ((apply (rule_after rules (length rules)) cells).ended ≡ None) }
 {}

@@ -35,11 +35,11 @@ impl Core {
     ghost use Rattle.chain_core.specs.Machine.{ChainState, visit_of, start, visited, progress_of_stages, Allowed, news_after};
     ghost use Rattle.chain_core.specs.ChainRun.{AllEnded};
     ghost use Rattle.chain_core.specs.Close.{closed_of};
-    ghost use Rattle.chain_core.specs.CoreNumbers.{CoreNumbers, IsLawfulPlan, StandsFor, progress_of_core, noted_numbers, served_numbers};
+    ghost use Rattle.chain_core.specs.CoreNumbers.{CoreNumbers, IsValidPlan, StandsFor, progress_of_core, noted_numbers, served_numbers};
 
     /// A core of a chain in which nothing was given or taken. `AllocError` where there is no memory for it.
     pub fn new(alloc: Global, plan: &CorePlan) -> Result<Core, AllocError>
-        requires { IsLawfulPlan plan.now }
+        requires { IsValidPlan plan.now }
         ensures plan { IfOk result (λ core. core.plan ≡ plan.now) }
         ensures stands { IfOk result (λ core. StandsFor core start) }
     {

@@ -5,7 +5,7 @@ use Rattle.ts_packet.specs.Cells.{Live, Dropped}
 use Rattle.chain_model.specs.PluginRule.{PluginRule, RuleOutcome, passes, drops, lasts, stops, refuses, passing_rule}
 use Rattle.chain_model.specs.Apply.{OwnEnd, last_passed, StageList, CellOutcome, goes_on, ends_after, ends_before, outcome_of_live, became, onto, apply_after, apply}
 
-onto-ended : (fate : CellOutcome) (a b : StageList) (own : OwnEnd) → (a.ended ≡ Some own → (b.cells ≡ a.cells) × (b.ended ≡ Some own)) → (onto fate a).ended ≡ Some own → ((onto fate b).cells ≡ (onto fate a).cells) × ((onto fate b).ended ≡ Some own)
+onto-ended : (action : CellOutcome) (a b : StageList) (own : OwnEnd) → (a.ended ≡ Some own → (b.cells ≡ a.cells) × (b.ended ≡ Some own)) → (onto action a).ended ≡ Some own → ((onto action b).cells ≡ (onto action a).cells) × ((onto action b).ended ≡ Some own)
 onto-ended (goes_on cell) a b own step e =
     let s = step e in (ap (λ cells. cell ∷ cells) s.0, s.1)
 onto-ended (ends_after cell) a b own step e = (refl, e)
@@ -21,24 +21,24 @@ apply_after-ended rule history (x ∷ xs) ys own e =
 pub apply-ended : (rule : PluginRule) (xs ys : List Cell) (own : OwnEnd) → (apply rule xs).ended ≡ Some own → ((apply rule (xs ++ ys)).cells ≡ (apply rule xs).cells) × ((apply rule (xs ++ ys)).ended ≡ Some own)
 apply-ended rule xs ys own e = apply_after-ended rule [] xs ys own e
 
-last-fate : (fate : RuleOutcome) (labels : ℕ) (rest : StageList) → (onto (outcome_of_live fate labels) rest).ended ≡ Some last_passed → 1 ≤ length (onto (outcome_of_live fate labels) rest).cells
-last-fate (passes packet) labels rest e = omega arith
-last-fate drops labels rest e = omega arith
-last-fate (lasts packet) labels rest e = omega arith
-last-fate stops labels rest e = absurd cc
-last-fate (refuses reason) labels rest e = absurd cc
+last-action : (action : RuleOutcome) (labels : ℕ) (rest : StageList) → (onto (outcome_of_live action labels) rest).ended ≡ Some last_passed → 1 ≤ length (onto (outcome_of_live action labels) rest).cells
+last-action (passes packet) labels rest e = omega arith
+last-action drops labels rest e = omega arith
+last-action (lasts packet) labels rest e = omega arith
+last-action stops labels rest e = absurd cc
+last-action (refuses reason) labels rest e = absurd cc
 
 apply_after-last_some : (rule : PluginRule) (history xs : List Cell) → (apply_after rule history xs).ended ≡ Some last_passed → 1 ≤ length (apply_after rule history xs).cells
 apply_after-last_some rule history [] e = absurd cc
 apply_after-last_some rule history (Live packet labels ∷ xs) e =
-    last-fate (rule.outcome_of history packet labels) (rule.labels_of history packet labels) (apply_after rule (history ++ Live packet labels ∷ []) xs) e
+    last-action (rule.outcome_of history packet labels) (rule.labels_of history packet labels) (apply_after rule (history ++ Live packet labels ∷ []) xs) e
 apply_after-last_some rule history (Dropped ∷ xs) e = omega arith
 
 -- a list that ends after a last packet is not empty
 pub apply-last_some : (rule : PluginRule) (xs : List Cell) → (apply rule xs).ended ≡ Some last_passed → 1 ≤ length (apply rule xs).cells
 apply-last_some rule xs e = apply_after-last_some rule [] xs e
 
-onto-last : (fate : CellOutcome) (a b : StageList) → (b.ended ≡ Some last_passed → length b.cells ≤ length a.cells → a.ended ≡ Some last_passed) → (onto fate b).ended ≡ Some last_passed → length (onto fate b).cells ≤ length (onto fate a).cells → (onto fate a).ended ≡ Some last_passed
+onto-last : (action : CellOutcome) (a b : StageList) → (b.ended ≡ Some last_passed → length b.cells ≤ length a.cells → a.ended ≡ Some last_passed) → (onto action b).ended ≡ Some last_passed → length (onto action b).cells ≤ length (onto action a).cells → (onto action a).ended ≡ Some last_passed
 onto-last (goes_on cell) a b step e le = step e (omega arith)
 onto-last (ends_after cell) a b step e le = refl
 onto-last (ends_before how) a b step e le = e
@@ -54,7 +54,7 @@ apply_after-last rule history (x ∷ xs) ys e le =
 pub apply-last : (rule : PluginRule) (xs ys : List Cell) → (apply rule (xs ++ ys)).ended ≡ Some last_passed → length (apply rule (xs ++ ys)).cells ≤ length (apply rule xs).cells → (apply rule xs).ended ≡ Some last_passed
 apply-last rule xs ys e le = apply_after-last rule [] xs ys e le
 
-onto-length : (fate : CellOutcome) (a : StageList) (n : ℕ) → length a.cells ≤ n → length (onto fate a).cells ≤ suc n
+onto-length : (action : CellOutcome) (a : StageList) (n : ℕ) → length a.cells ≤ n → length (onto action a).cells ≤ suc n
 onto-length (goes_on cell) a n le = omega arith
 onto-length (ends_after cell) a n le = omega arith
 onto-length (ends_before how) a n le = omega arith
@@ -69,7 +69,7 @@ apply_after-length rule history (x ∷ xs) =
 pub apply-length : (rule : PluginRule) (xs : List Cell) → length (apply rule xs).cells ≤ length xs
 apply-length rule xs = apply_after-length rule [] xs
 
-onto-before : (fate : CellOutcome) (a : StageList) (own : OwnEnd) (n : ℕ) → own ≢ last_passed → (a.ended ≡ Some own → length a.cells < n) → (onto fate a).ended ≡ Some own → length (onto fate a).cells < suc n
+onto-before : (action : CellOutcome) (a : StageList) (own : OwnEnd) (n : ℕ) → own ≢ last_passed → (a.ended ≡ Some own → length a.cells < n) → (onto action a).ended ≡ Some own → length (onto action a).cells < suc n
 onto-before (goes_on cell) a own n other step e =
     let le : length a.cells < n = step e in omega arith
 onto-before (ends_after cell) a own n other step e =

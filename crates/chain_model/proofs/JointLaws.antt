@@ -9,12 +9,12 @@ use Rattle.chain_model.specs.declared.cause.Cause.{Cause}
 use Rattle.chain_model.specs.declared.cause.Cause.TheVariants.{Joint}
 use Rattle.chain_model.specs.PluginRule.{PluginRule}
 use Rattle.chain_model.specs.Apply.{OwnEnd, input_over, last_passed, stopped, refused, StageList, CellOutcome, goes_on, ends_after, ends_before, became, onto, apply_after}
-use Rattle.chain_model.specs.StageLists.{rule_behind, stage_list, end_list}
+use Rattle.chain_model.specs.StageLists.{rule_after, stage_list, end_list}
 use Rattle.chain_model.specs.Joint.{joint_position}
 use Rattle.chain_model.specs.Cut.{Ending, lesser_end, is_until, first_cause, causes_at, cause_among, cause_of_end, ending_of, endings_to, endings_of, cut_of, cause_of}
 
 -- a list that a plugin did not end has a cell for each that came
-onto-follows : (fate : CellOutcome) (a : StageList) (n : ℕ) → (a.ended ≡ None → length a.cells ≡ n) → (onto fate a).ended ≡ None → length (onto fate a).cells ≡ suc n
+onto-follows : (action : CellOutcome) (a : StageList) (n : ℕ) → (a.ended ≡ None → length a.cells ≡ n) → (onto action a).ended ≡ None → length (onto action a).cells ≡ suc n
 onto-follows (goes_on cell) a n step e = ap suc (step e)
 onto-follows (ends_after cell) a n step e = absurd cc
 onto-follows (ends_before how) a n step e = absurd cc
@@ -129,7 +129,7 @@ ends-next : (rules : List PluginRule) (input : StageList) (j : ℕ) (ended : Opt
     → SomeAt (length (stage_list rules input (suc j)).cells) (endings_to rules input (suc j))
 ends-next rules input j None e before =
     let same : length (stage_list rules input (suc j)).cells ≡ length (stage_list rules input j).cells =
-    apply_after-follows (rule_behind rules j) [] (stage_list rules input j).cells e in
+    apply_after-follows (rule_after rules j) [] (stage_list rules input j).cells e in
     some-left (length (stage_list rules input (suc j)).cells) (endings_to rules input j) (ending_of (suc j) (stage_list rules input (suc j)))
     (subst (λ (m : ℕ). SomeAt m (endings_to rules input j)) (sym same) before)
 ends-next rules input j (Some how) e before =

@@ -8,7 +8,7 @@ use Rattle.chain_model.specs.NeverEnds.{GoesOn, NeverEnds}
 
 -- the list goes on with a cell
 abbrev GoesOnWith : CellOutcome → Type 0
-GoesOnWith fate = (cell : Cell) × (fate ≡ goes_on cell)
+GoesOnWith action = (cell : Cell) × (action ≡ goes_on cell)
 
 live-goes_on : (outcome : RuleOutcome) (labels : ℕ) → GoesOn outcome → GoesOnWith (outcome_of_live outcome labels)
 live-goes_on (passes packet) labels h = (Live packet labels, refl)
@@ -30,7 +30,7 @@ record Given (rule : PluginRule) (history : List Cell) (x : Cell) : Type 0 where
 given : (rule : PluginRule) → NeverEnds rule → (history : List Cell) (x : Cell) → Given rule history x
 given rule h history x =
     let made = cell-goes_on rule h history x in
-    record { cell = made.0; is = made.1; whole = λ xs. ap (λ (fate : CellOutcome). onto fate (apply_after rule (history ++ x ∷ []) xs)) made.1 }
+    record { cell = made.0; is = made.1; whole = λ xs. ap (λ (action : CellOutcome). onto action (apply_after rule (history ++ x ∷ []) xs)) made.1 }
 
 after-ended : (rule : PluginRule) → NeverEnds rule → (history xs : List Cell) → (apply_after rule history xs).ended ≡ None
 after-ended rule h history [] = refl

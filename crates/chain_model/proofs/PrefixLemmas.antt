@@ -13,7 +13,7 @@ IsPrefix-trans xs ys zs p q = (p.0 ++ q.0, q.1 ∙ ap (λ l. l ++ q.0) p.1 ∙ a
 pub IsPrefix-take : {X : Type 0} (m : ℕ) (xs : List X) → IsPrefix (take m xs) xs
 IsPrefix-take m xs = (drop m xs, sym (take-append-drop m xs))
 
-onto-prefix : (fate : CellOutcome) (a b : StageList) → IsPrefix a.cells b.cells → IsPrefix (onto fate a).cells (onto fate b).cells
+onto-prefix : (action : CellOutcome) (a b : StageList) → IsPrefix a.cells b.cells → IsPrefix (onto action a).cells (onto action b).cells
 onto-prefix (goes_on cell) a b p = (p.0, ap (λ cells. cell ∷ cells) p.1)
 onto-prefix (ends_after cell) a b p = ([], refl)
 onto-prefix (ends_before how) a b p = ([], refl)

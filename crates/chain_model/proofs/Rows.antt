@@ -15,8 +15,8 @@ use Rattle.chain_model.specs.Stuffed.{stuffed}
 
 -- a rule that gives this fate after so many cells, passes before, and agrees after so many others
 abbrev rule_at : ℕ → (List ℕ → RuleOutcome) → ℕ → PluginRule
-rule_at n fate agreed = record {
-  outcome_of = λ history packet labels. if length history == n then fate packet else passes packet;
+rule_at n action agreed = record {
+  outcome_of = λ history packet labels. if length history == n then action packet else passes packet;
   labels_of = λ history packet labels. labels;
   lines_of = λ history packet labels. [];
   summary_of = λ history. [];

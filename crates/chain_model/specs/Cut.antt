@@ -85,7 +85,7 @@ is_fault (NoMemory k) = true
 is_fault _ = false
 
 -- a fault may end the chain at `m`: not after the cut, and not where another cause comes before it
-pub record IsLawfulFault (rules : List PluginRule) (input : StageList) (users : List ℕ) (m : ℕ) (cause : Cause) : Type 0 where
+pub record IsValidFault (rules : List PluginRule) (input : StageList) (users : List ℕ) (m : ℕ) (cause : Cause) : Type 0 where
   pub fault : IsTrue (is_fault cause)
   pub within : m ≤ cut_of rules input users
   pub not_joint : joint_position rules input users ≢ Some m

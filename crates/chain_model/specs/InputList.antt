@@ -26,16 +26,16 @@ abbrev pub packets_of : List ℕ → List (List ℕ)
 packets_of bytes = packets_within (length bytes) bytes
 
 -- how an input ends whose bytes after the first `n` packets hold no further packet
-abbrev pub end_behind : ℕ → List ℕ → InputEnd
-end_behind n [] = End 0
-end_behind n (first ∷ rest) =
+abbrev pub end_after : ℕ → List ℕ → InputEnd
+end_after n [] = End 0
+end_after n (first ∷ rest) =
     if first == SYNC_BYTE then End (length (first ∷ rest)) else Sync n
 
 -- the input that bytes give
 abbrev pub input_of_bytes : List ℕ → InputList
 input_of_bytes bytes = record {
   packets = packets_of bytes;
-  ended = end_behind (length (packets_of bytes)) (drop (PACKET_SIZE * length (packets_of bytes)) bytes);
+  ended = end_after (length (packets_of bytes)) (drop (PACKET_SIZE * length (packets_of bytes)) bytes);
 }
 
 -- the input of so many null packets

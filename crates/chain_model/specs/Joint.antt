@@ -4,7 +4,7 @@ use Rattle.std.specs.Prelude.{ℕ, zero, suc, max, List, [], ◌∷◌, ◌++◌
 use Rattle.ts_packet.specs.declared.cell.Cell.{Cell}
 use Rattle.chain_model.specs.PluginRule.{PluginRule}
 use Rattle.chain_model.specs.Apply.{StageList}
-use Rattle.chain_model.specs.StageLists.{rule_behind, stage_list}
+use Rattle.chain_model.specs.StageLists.{rule_after, stage_list}
 
 -- the least number of cells after a history at which the rule agrees, counted with the history
 abbrev pub agreement_after : PluginRule → List Cell → List Cell → Option ℕ
@@ -32,7 +32,7 @@ greatest_if_all (Some n ∷ rest) = greatest_with n rest
 -- the agreement of stage `j`, a plugin, over the list that it meets
 abbrev pub agreement_at : List PluginRule → StageList → ℕ → Option ℕ
 agreement_at rules input zero = None
-agreement_at rules input (suc j) = agreement_of (rule_behind rules j) (stage_list rules input j).cells
+agreement_at rules input (suc j) = agreement_of (rule_after rules j) (stage_list rules input j).cells
 
 -- the joint position of the users, which are numbers of stages
 abbrev pub joint_position : List PluginRule → StageList → List ℕ → Option ℕ

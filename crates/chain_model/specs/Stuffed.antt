@@ -26,14 +26,14 @@ abbrev pub null_cells : ℕ → List Cell
 null_cells n = replicate n (Live null_packet no_labels)
 
 -- the null packets after the `n`-th packet of the input, counted from 1
-abbrev pub nulls_behind : Stuffing → ℕ → List Cell
-nulls_behind stuffing n = if n % stuffing.every == 0 then null_cells stuffing.null else []
+abbrev pub nulls_after : Stuffing → ℕ → List Cell
+nulls_after stuffing n = if n % stuffing.every == 0 then null_cells stuffing.null else []
 
 -- the packets of the input that follow `n` others, each with its null packets after it
 abbrev pub stuffed_after : Stuffing → ℕ → List (List ℕ) → List Cell
 stuffed_after stuffing n [] = []
 stuffed_after stuffing n (packet ∷ packets) =
-    Live packet no_labels ∷ (nulls_behind stuffing (n + 1) ++ stuffed_after stuffing (n + 1) packets)
+    Live packet no_labels ∷ (nulls_after stuffing (n + 1) ++ stuffed_after stuffing (n + 1) packets)
 
 -- the null packets after the end: after a plain end alone
 abbrev pub stop_nulls : Stuffing → InputEnd → List Cell

@@ -13,7 +13,7 @@ use Rattle.chain_model.specs.declared.cause.Cause.TheVariants as cause
 use Rattle.chain_model.specs.Prefix.{IsPrefix}
 use Rattle.chain_model.specs.PluginRule.{PluginRule}
 use Rattle.chain_model.specs.Apply.{StageList}
-use Rattle.chain_model.specs.StageLists.{rule_behind, stage_list, end_list}
+use Rattle.chain_model.specs.StageLists.{rule_after, stage_list, end_list}
 use Rattle.chain_model.specs.Stuffed as model
 use Rattle.chain_model.specs.Written.{written, IsPartOfFirst}
 use Rattle.chain_core.specs.declared.stage_end.StageEnd.{StageEnd}
@@ -34,7 +34,7 @@ use Rattle.stage_run.specs.PartLists.{PartLists}
 use Rattle.stage_run.specs.PartStands.{PartStands, PartGives, rule_of, source_kind, sink_kind, a_stream, null_packets, generated_packets, no_stream, an_input, a_plugin, an_output}
 use Rattle.stage_run.specs.OutputStands.{SinkTook}
 use Rattle.stage_run.specs.Parts.{IsSourceOf, IsSinkOf, FailedReading, LeavesSource, LeavesInput, LeavesOutput}
-use Rattle.plugin_trait.specs.Steps.{IsSteadyFor}
+use Rattle.plugin_trait.specs.Steps.{IsPreallocatedFor}
 use Rattle.chain_run.specs.Met.{AllMetFirst}
 use Rattle.chain_run.specs.Rooms.{WantsMemory}
 use Rattle.chain_run.specs.Parts.{AreTakenFrom}
@@ -151,10 +151,10 @@ module _ {S K P : Type 0} (see : Seeing S K P)
 
   module _ (list : StageList) (gives : PartGives see (goes.part 0) (goes.lists 0) list) where
     pub at-close : AtClose begun.plan begun.rules list state cut why
-    at-close = laws.close begun.plan begun.rules list goes.visits (kept-of see begun goes.lawful_run laws parts goes.visits goes.part goes.lists by list gives) over
+    at-close = laws.close begun.plan begun.rules list goes.visits (kept-of see begun goes.valid_run laws parts goes.visits goes.part goes.lists by list gives) over
 
     so-far : SoFar begun.plan begun.rules list state
-    so-far = far see begun goes.lawful_run laws parts goes.visits goes.part goes.lists by list gives
+    so-far = far see begun goes.valid_run laws parts goes.visits goes.part goes.lists by list gives
 
     given-cut : length (state.stages out).given ≡ cut
     given-cut =
@@ -164,7 +164,7 @@ module _ {S K P : Type 0} (see : Seeing S K P)
 
     written-cut : written_of begun.plan (progress_of_stages state) ≤ cut
     written-cut =
-        let a = written-given laws begun.plan goes.lawful_run.lawful.users goes.visits by.run out (omega arith) in let b = given-cut in omega arith
+        let a = written-given laws begun.plan goes.valid_run.valid.users goes.visits by.run out (omega arith) in let b = given-cut in omega arith
 
     -- a failed read is reported by the input alone
     read-told : why ≡ cause.Input ReadFault → ((state.stages 0).ended ≡ Some (Input ReadFault)) × (length (state.stages 0).given ≡ cut)
@@ -202,7 +202,7 @@ module _ {S K P : Type 0} (see : Seeing S K P)
                 let gives_it : Some cause.WriteFault ≡ Some why = sym (ap (cause_of_stage told.0) same) ∙ ends.gives in
                 let it : cause.WriteFault ≡ why = cc in sym it)
             | inr before ↦ (let at : told.0 < out = below told.0 told.2 before in
-                let a = taken-falls laws begun.plan goes.lawful_run.lawful.users goes.visits by.run out told.0 at in
+                let a = taken-falls laws begun.plan goes.valid_run.valid.users goes.visits by.run out told.0 at in
                 let b = failed.few in let c : length (state.stages told.0).given ≡ cut = told.3 in let d = given-cut in absurd (omega arith))
           ]
         ]
@@ -255,7 +255,7 @@ module _ {S K P : Type 0} (see : Seeing S K P)
     part-left is =
         let failed = at-output.failed is in
         let prefix : IsPrefix (state.stages begun.plan.plugins).given (end_list begun.rules list).cells =
-        subst (λ n. IsPrefix (state.stages begun.plan.plugins).given (stage_list begun.rules list n).cells) (sym goes.lawful_run.rules_are) (so-far.lists begun.plan.plugins (omega arith)) in
+        subst (λ n. IsPrefix (state.stages begun.plan.plugins).given (stage_list begun.rules list n).cells) (sym goes.valid_run.rules_are) (so-far.lists begun.plan.plugins (omega arith)) in
         let long = at-close.reached begun.plan.plugins (omega arith) in
         subst (λ (l : List Cell). IsPartOfFirst l (goes.lists out).cut)
         (sym (ap (drop cut) prefix.1 ∙ (drop-append-le cut (state.stages begun.plan.plugins).given prefix.0 long
@@ -290,7 +290,7 @@ module _ {S K P : Type 0} (see : Seeing S K P)
     pub gave-to : Gave begun.plan.plugins begun.plan.buffer cut gave-of
     gave-to = record {
       input = at-close.made;
-      falls = λ k le. given-falls laws begun.plan goes.lawful_run.lawful.users goes.visits by.run (suc k) k (omega arith);
+      falls = λ k le. given-falls laws begun.plan goes.valid_run.valid.users goes.visits by.run (suc k) k (omega arith);
       output = given-cut;
     }
 
@@ -311,7 +311,7 @@ module _ {S K P : Type 0} (see : Seeing S K P)
         let holds : heard_stands see plugin (goes.lists (suc j)).met (goes.lists (suc j)).mark =
         taken.0.holds (goes.lists (suc j)) (state.stages (suc j)).ended (subst (λ p. PartStands see p (goes.lists (suc j)) (state.stages (suc j)).ended) (sym is) own.stands_for) in
         let reached : cut ≤ length (state.stages (suc j)).given = at-close.reached (suc j) (omega arith) in
-        let falls : length (state.stages (suc j)).given ≤ length (state.stages j).given = given-falls laws begun.plan goes.lawful_run.lawful.users goes.visits by.run (suc j) j (omega arith) in
+        let falls : length (state.stages (suc j)).given ≤ length (state.stages j).given = given-falls laws begun.plan goes.valid_run.valid.users goes.visits by.run (suc j) j (omega arith) in
         let prefix : IsPrefix (state.stages j).given (stage_list begun.rules list j).cells = so-far.lists j (omega arith) in
         let first-of : take (gave-of (suc j)) (state.stages j).given ≡ take (gave-of (suc j)) (stage_list begun.rules list j).cells =
         sym (ap (take (gave-of (suc j))) prefix.1 ∙ take-append-le (gave-of (suc j)) (state.stages j).given prefix.0 falls) in (
@@ -342,9 +342,9 @@ module _ {S K P : Type 0} (see : Seeing S K P)
             let here = at-plugin j lt in
             let wants = wants-kind see (goes.part (suc j)) begun.plan.buffer ((by.stands (suc j) (omega (arith, lt))).memory ended) in
             record {
-              behind_input = omega arith;
-              there_is = (let a = goes.lawful_run.rooms_are in omega arith);
-              no_room = λ has. wants.1 (subst (λ (room : Option ℕ). IsSteadyFor room begun.plan.buffer)
+              after_input = omega arith;
+              there_is = (let a = goes.valid_run.rooms_are in omega arith);
+              no_room = λ has. wants.1 (subst (λ (room : Option ℕ). IsPreallocatedFor room begun.plan.buffer)
                   (ap (λ n. slice_index_or begun.rooms n None) (let e : suc j - 1 ≡ j = omega arith in e) ∙ sym here.room_is) has);
             }
 
@@ -363,7 +363,7 @@ module _ {S K P : Type 0} (see : Seeing S K P)
   -- the rules are those of the plugins that went in
   pub rules-all : (j : ℕ) (rules : List PluginRule) (rest : List (StagePart S K P)) (made : List (Heard P)) → AreTakenFrom see rest made → length made ≡ length rules → j + length made ≡ begun.plan.plugins
       → ((i : ℕ) (d : StagePart S K P) → i < length made → slice_index_or rest i d ≡ goes.part (suc (j + i)))
-      → ((i : ℕ) → i < length made → rule_behind begun.rules (j + i) ≡ rule_behind rules i) → map (heard_rule see) made ≡ rules
+      → ((i : ℕ) → i < length made → rule_after begun.rules (j + i) ≡ rule_after rules i) → map (heard_rule see) made ≡ rules
   rules-all j [] rest [] taken long number same are = refl
   rules-all j (r ∷ rules) rest [] taken long number same are = absurd (omega arith)
   rules-all j [] rest (plugin ∷ made) taken long number same are = absurd (omega arith)
@@ -371,7 +371,7 @@ module _ {S K P : Type 0} (see : Seeing S K P)
   rules-all j (r ∷ rules) (part ∷ rest) (plugin ∷ made) taken long number same are =
       let lt : j < begun.plan.plugins = omega arith in
       let is : part ≡ goes.part (suc j) = same 0 part (omega arith) ∙ ap (λ n. goes.part (suc n)) (omega arith) in
-      let head : heard_rule see plugin ≡ r = taken.0.same_rule ∙ (ap (λ p. rule_of see p) is ∙ ((at-plugin j lt).rule_is ∙ (ap (rule_behind begun.rules) (omega arith) ∙ are 0 (omega arith)))) in
+      let head : heard_rule see plugin ≡ r = taken.0.same_rule ∙ (ap (λ p. rule_of see p) is ∙ ((at-plugin j lt).rule_is ∙ (ap (rule_after begun.rules) (omega arith) ∙ are 0 (omega arith)))) in
       let tail : map (heard_rule see) made ≡ rules = rules-all (suc j) rules rest made taken.1 (omega arith) (omega arith) (λ i d below. same (suc i) d (omega arith) ∙ ap (λ n. goes.part (suc n)) (omega arith))
-      (λ i below. ap (rule_behind begun.rules) (omega arith) ∙ are (suc i) (omega arith)) in
+      (λ i below. ap (rule_after begun.rules) (omega arith) ∙ are (suc i) (omega arith)) in
       λ i. head i ∷ tail i

@@ -2,7 +2,7 @@
 use Rattle.std.proofs.Common.{◌≡◌, ℕ, suc, ◌+◌, ◌<◌, List, [], ◌∷◌, ◌++◌, length, map, refl, ap, sym, ◌∙◌, subst, arith, length-append}
 use Rattle.std.specs.Prelude.{slice_index_or}
 use Rattle.std.proofs.Math.Seq.{get_or-append_seam}
-use Rattle.chain_model.specs.StageLists.{rule_behind}
+use Rattle.chain_model.specs.StageLists.{rule_after}
 use Rattle.chain_core.specs.declared.closed.Closed.{Closed}
 use Rattle.chain_core.specs.declared.core_plan.CorePlan.{CorePlan}
 use Rattle.chain_core.specs.Machine.{ChainState, progress_of_stages}
@@ -110,10 +110,10 @@ module _ {S K P : Type 0} (see : Seeing S K P) where
         let at = at-close see laws begun parts goes over chosen.list gives in
         let same : (i : ℕ) (d : StagePart S K P) → i < length made → slice_index_or rest i d ≡ goes.part (suc (0 + i)) =
         λ i d lt. rest-is begun parts goes first rest row i d (let a = taken-length rest made taken in omega arith) ∙ ap (λ n. goes.part (suc n)) (let e : i ≡ 0 + i = omega arith in e) in
-        let rules-length : length (map (heard_rule see) plugins) ≡ plan.plugins = goes.lawful_run.rules_are in
+        let rules-length : length (map (heard_rule see) plugins) ≡ plan.plugins = goes.valid_run.rules_are in
         let done : RunOf see from made_from stuffing plugins made to made_to plan (closed_of plan (progress_of_stages state)) = record {
           list = chosen.list;
-          is_list = is-list see begun goes.lawful_run laws parts goes.visits goes.part goes.lists by chosen.list gives;
+          is_list = is-list see begun goes.valid_run laws parts goes.visits goes.part goes.lists by chosen.list gives;
           closes = at.pure_or_fault;
           input = left-input see laws begun parts goes over chosen.list gives made_from
               (back.in_stream ∙ (ap stream_kind is-first ∙ ((by.stands 0 (omega arith)).input refl).stream))
@@ -127,6 +127,6 @@ module _ {S K P : Type 0} (see : Seeing S K P) where
           met = met-all see laws begun parts goes over chosen.list gives 0 rest made taken (omega arith) same;
           memory = wants-of see laws begun parts goes over chosen.list gives;
           rules = rules-all see laws begun parts goes over 0 (map (heard_rule see) plugins) rest made taken (many ∙ sym rules-length) (omega arith) same
-              (λ i lt. ap (rule_behind (map (heard_rule see) plugins)) (let e : 0 + i ≡ i = omega arith in e));
+              (λ i lt. ap (rule_after (map (heard_rule see) plugins)) (let e : 0 + i ≡ i = omega arith in e));
         } in
         subst (λ (c : Closed). RunOf see from made_from stuffing plugins made to made_to plan c) (sym closed-is) done

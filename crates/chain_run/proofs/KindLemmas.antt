@@ -3,8 +3,8 @@ use Rattle.std.proofs.Common.{◌≡◌, ℕ, ◌+◌, ◌*◌, ◌<◌, ◌≤�
 use Rattle.ts_packet.specs.declared.cell.Cell.{Cell}
 use Rattle.chain_model.specs.PluginRule.{PluginRule, passing_rule}
 use Rattle.chain_model.specs.Apply.{StageList}
-use Rattle.plugin_trait.specs.Steps.{IsSteadyFor}
-use Rattle.stage_run.proofs.PluginWorking.{steady_less}
+use Rattle.plugin_trait.specs.Steps.{IsPreallocatedFor}
+use Rattle.stage_run.proofs.PluginWorking.{preallocated_less}
 use Rattle.chain_core.specs.declared.news.News.{News}
 use Rattle.chain_core.specs.Keeps.{StageKeeps}
 use Rattle.stage_run.specs.Seeing.{Seeing}
@@ -18,7 +18,7 @@ use Rattle.stage_run.specs.declared.packet_feed.PacketFeed.TheVariants as feed
 use Rattle.stage_run.specs.Feeds.{SameFeed}
 use Rattle.stage_run.specs.OutputStands.{SamePart}
 use Rattle.stage_run.specs.PartLists.{PartLists}
-use Rattle.stage_run.specs.PartStands.{PartGives, MayWantMemory, sink_kind, feed_kind, stream_kind, kind_of, rule_of, steady_of, an_input, a_plugin, an_output}
+use Rattle.stage_run.specs.PartStands.{PartGives, MayWantMemory, sink_kind, feed_kind, stream_kind, kind_of, rule_of, preallocated_of, an_input, a_plugin, an_output}
 use Rattle.stage_run.specs.Works.{WorksByKind, FillsByKind, InputTells, OutputTells, KeepsRule, read_for}
 
 -- a part that goes on has done a cell where it had one
@@ -81,19 +81,19 @@ module _ {S K P : Type 0} (see : Seeing S K P) where
   -- ---- memory
 
   -- a stage that may run out of memory is a plugin's that made no room
-  pub wants-kind : (part : StagePart S K P) (ahead : ℕ) → MayWantMemory see part ahead → (kind_of part ≡ a_plugin) × (IsSteadyFor (steady_of see part) ahead → ⊥)
+  pub wants-kind : (part : StagePart S K P) (ahead : ℕ) → MayWantMemory see part ahead → (kind_of part ≡ a_plugin) × (IsPreallocatedFor (preallocated_of see part) ahead → ⊥)
   wants-kind (Input stage) ahead wants = absurd wants
   wants-kind (Plugin stage) ahead wants = (refl, wants)
   wants-kind (Output stage) ahead wants = absurd wants
 
   -- it may run out of it for more positions too, after a visit
-  pub wants-more : (old new : StagePart S K P) (less more : ℕ) → kind_of new ≡ kind_of old → steady_of see new ≡ steady_of see old → less ≤ more → MayWantMemory see old less → MayWantMemory see new more
+  pub wants-more : (old new : StagePart S K P) (less more : ℕ) → kind_of new ≡ kind_of old → preallocated_of see new ≡ preallocated_of see old → less ≤ more → MayWantMemory see old less → MayWantMemory see new more
   wants-more (Input old) new less more kind same le wants = absurd wants
   wants-more (Output old) new less more kind same le wants = absurd wants
   wants-more (Plugin old) (Input new) less more kind same le wants = cc
   wants-more (Plugin old) (Output new) less more kind same le wants = cc
   wants-more (Plugin old) (Plugin new) less more kind same le wants =
-      λ has. wants (steady_less (see.steady old.heard.plugin) more less le (subst (λ (s : Option ℕ). IsSteadyFor s more) same has))
+      λ has. wants (preallocated_less (see.preallocated old.heard.plugin) more less le (subst (λ (s : Option ℕ). IsPreallocatedFor s more) same has))
 
   -- ---- streams
 

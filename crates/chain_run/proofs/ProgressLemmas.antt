@@ -8,7 +8,7 @@ use Rattle.chain_core.specs.declared.stage_end.StageEnd.{StageEnd}
 use Rattle.chain_core.specs.Numbers.{StagesProgress, UsersArePlugins, reach_of, takes_of}
 use Rattle.chain_core.specs.Machine.{ChainState, StageState, Visit, progress_of_stages, visit_of, visited}
 use Rattle.chain_core.specs.ChainRun.{ChainRun, state_after, AllEnded}
-use Rattle.chain_core.specs.CoreNumbers.{CoreNumbers, IsLawfulPlan, StandsFor, progress_of_core}
+use Rattle.chain_core.specs.CoreNumbers.{CoreNumbers, IsValidPlan, StandsFor, progress_of_core}
 use Rattle.chain_core.specs.Laws.{IsQuiet}
 use Rattle.chain_core.proofs.Stepping.{visited-same, visited-other}
 use Rattle.chain_run.specs.Runs.{nothing_told}
@@ -142,10 +142,10 @@ one-more plan start old new n stage was turn now (inr rested) before less same i
 }
 
 -- where every stage is idle or over, all are over
-pub over-of : (plan : CorePlan) (core : CoreNumbers) (visits : List Visit) → core.plan ≡ plan → IsLawfulPlan plan → ChainRun plan visits → StandsFor core (state_after plan visits)
+pub over-of : (plan : CorePlan) (core : CoreNumbers) (visits : List Visit) → core.plan ≡ plan → IsValidPlan plan → ChainRun plan visits → StandsFor core (state_after plan visits)
     → ((plan : CorePlan) (visits : List Visit) → UsersArePlugins plan → 1 ≤ plan.buffer → ChainRun plan visits → IsQuiet plan (state_after plan visits) → AllEnded plan (progress_of_stages (state_after plan visits)))
     → ((k : ℕ) → k ≤ suc plan.plugins → IsIdleOrOver plan (progress_of_core core) k) → AllEnded core.plan (progress_of_core core)
-over-of plan core visits plan_is lawful run stands law idle =
+over-of plan core visits plan_is valid run stands law idle =
     let state : ChainState = state_after plan visits in
     let idle-state : (k : ℕ) → k ≤ suc plan.plugins → IsIdleOrOver plan (progress_of_stages state) k =
     subst (λ (m : StagesProgress). (k : ℕ) → k ≤ suc plan.plugins → IsIdleOrOver plan m k) (as-progress core state stands) idle in
@@ -156,4 +156,4 @@ over-of plan core visits plan_is lawful run stands law idle =
       input_below = λ open_. (idle-state 0 (omega arith) open_).input_below refl;
     } in
     subst (λ (p : CorePlan). AllEnded p (progress_of_core core)) (sym plan_is)
-    (subst (λ (m : StagesProgress). AllEnded plan m) (sym (as-progress core state stands)) (law plan visits lawful.users lawful.some_buffer run quiet))
+    (subst (λ (m : StagesProgress). AllEnded plan m) (sym (as-progress core state stands)) (law plan visits valid.users valid.some_buffer run quiet))

@@ -14,7 +14,7 @@ use Rattle.stage_run.specs.PartStands.{PartGives}
 use Rattle.stage_run.specs.Parts.{IsListOf}
 use Rattle.chain_run.specs.Runs.{RunStart}
 use Rattle.chain_run.specs.OneStage.{SoFarUpTo}
-use Rattle.chain_run.specs.Ran.{IsLawfulRun, RanBy}
+use Rattle.chain_run.specs.Ran.{IsValidRun, RanBy}
 use Rattle.chain_run.specs.Laws.{MachineLaws}
 use Rattle.chain_run.proofs.TurnLemmas.{list-ends}
 
@@ -27,11 +27,11 @@ pub earlier_kept : (plan : CorePlan) (rules : List PluginRule) (input : StageLis
 earlier_kept plan rules input [] q kept = kept
 earlier_kept plan rules input (v ∷ vs) q kept = earlier_kept plan rules input vs q kept.0
 
-module _ {S K P : Type 0} (see : Seeing S K P) (begun : RunStart S K) (r : IsLawfulRun begun) where
+module _ {S K P : Type 0} (see : Seeing S K P) (begun : RunStart S K) (r : IsValidRun begun) where
   pub kept-run : (input : StageList) (visits : List Visit) → IsListOf see.source begun.from begun.stuffing input → AllKeep begun.plan begun.rules input visits → ChainRun begun.plan visits → KeptRun begun.plan begun.rules input visits
   kept-run input visits is_list kept run = record {
     plugins = r.rules_are;
-    users = r.lawful.users;
+    users = r.valid.users;
     agree_late = r.agree_late;
     input_ends = list-ends see.source begun.from begun.stuffing input is_list;
     run = run;

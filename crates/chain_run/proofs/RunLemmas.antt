@@ -10,7 +10,7 @@ use Rattle.chain_core.specs.Numbers.{StagesProgress}
 use Rattle.chain_core.specs.Machine.{ChainState, progress_of_stages}
 use Rattle.chain_core.specs.ChainRun.{state_after, AllEnded}
 use Rattle.chain_core.specs.Close.{closed_of}
-use Rattle.chain_core.specs.CoreNumbers.{CoreNumbers, IsLawfulPlan, StandsFor, progress_of_core}
+use Rattle.chain_core.specs.CoreNumbers.{CoreNumbers, IsValidPlan, StandsFor, progress_of_core}
 use Rattle.plugin_trait.specs.declared.heard.Heard.{Heard}
 use Rattle.stage_run.specs.Seeing.{Seeing, heard_stands}
 use Rattle.stage_run.specs.declared.input_part.InputPart.{InputPart}
@@ -33,7 +33,7 @@ use Rattle.chain_run.proofs.ProgressLemmas.{as-progress}
 module _ {S K P : Type 0} (see : Seeing S K P) where
   -- the stages in a row, of which nothing was done
   pub record Laid (from : InputPart S) (stuffing : Stuffing) (plugins : List (Heard P)) (to : OutputPart K) (plan : CorePlan) (parts : List (StagePart S K P)) : Type 0 where
-    pub lawful : IsLawfulPlan plan
+    pub valid : IsValidPlan plan
     pub fresh : AreFresh (heard_stands see) plugins
     pub number : plan.plugins ≡ length plugins
     pub opens : (plugin : P) (history : List Cell) (mark : ℕ) → see.stands plugin history mark → (see.rule plugin).agrees [] ≡ false
@@ -55,7 +55,7 @@ module _ {S K P : Type 0} (see : Seeing S K P) where
       → Laid from stuffing plugins to plan parts → IsNewRow see (began_with see from stuffing plugins to plan) parts
   laid-row from stuffing plugins to plan parts laid =
       subst (λ (l : List (StagePart S K P)). IsNewRow see (began_with see from stuffing plugins to plan) l) (sym laid.row)
-      (new-row see plan laid.lawful from stuffing to plugins laid.fresh laid.number laid.opens laid.first laid.out laid.made laid.are
+      (new-row see plan laid.valid from stuffing to plugins laid.fresh laid.number laid.opens laid.first laid.out laid.made laid.are
       laid.in_kind laid.in_stream laid.in_stuffing laid.in_stands laid.in_gives laid.out_kind laid.out_stream laid.out_stands)
 
   -- ---- a run in one thread is a run
@@ -63,7 +63,7 @@ module _ {S K P : Type 0} (see : Seeing S K P) where
   module _ (begun : RunStart S K) (core : CoreNumbers) (parts : List (StagePart S K P)) (cells : List Cell) (goes : IsRunning see begun core parts cells) where
     abbrev pub ran-of : Ran see begun parts
     ran-of = record {
-      lawful_run = goes.fits.run;
+      valid_run = goes.fits.run;
       stages_are = goes.fits.stages_are;
       visits = goes.runs.visits;
       part = goes.runs.part;

@@ -3,7 +3,7 @@ use Rattle.std.proofs.Common.{◌≡◌, ◌≢◌, ℕ, zero, suc, ◌+◌, Lis
 use Rattle.ts_packet.specs.declared.cell.Cell.{Cell}
 use Rattle.chain_model.specs.PluginRule.{PluginRule}
 use Rattle.chain_model.specs.Apply.{StageList, last_passed}
-use Rattle.chain_model.specs.StageLists.{rule_behind}
+use Rattle.chain_model.specs.StageLists.{rule_after}
 use Rattle.chain_core.specs.declared.news.News.{News}
 use Rattle.chain_core.specs.Machine.{Visit, start}
 use Rattle.chain_core.specs.ChainRun.{took}
@@ -30,7 +30,7 @@ first-quiet rules input plugins zero no_last = record {
 }
 first-quiet rules input plugins (suc j) no_last = record {
   list = record { gives = ([], refl); ends = λ end e. cc; last_at_once = λ last. (let e : None ≡ Some last_passed = last.ended in cc) };
-  agreement = silent (rule_behind rules j) [] 0 (0 + 0) (omega arith);
+  agreement = silent (rule_after rules j) [] 0 (0 + 0) (omega arith);
 }
 
 module _ {S K P : Type 0} (see : Seeing S K P) (laws : MachineLaws) where
@@ -44,18 +44,18 @@ module _ {S K P : Type 0} (see : Seeing S K P) (laws : MachineLaws) where
   works : (begun : RunStart S K) (visits : List Visit) (k : ℕ) (old new : StagePart S K P) (lists : PartLists) (known : Premise S K P) (news : News) (window window_new : List Cell) (work : Work)
       → HasNews see begun visits k old lists known news → WorksOn see begun visits k old new news window window_new work → HasWorked see begun visits k old new lists (take work.done window_new) work
   works begun visits k old new lists known news window window_new work n o = record {
-    after = (stage.w see begun laws n.lawful visits n.run k n.is_stage old lists (premise see begun known) n.doing news n.told new (length window) o.in_hand window refl window_new o.same_length work o.worked o.window_is).after;
-    doing = stage.done-now see begun laws n.lawful visits n.run k n.is_stage old lists (premise see begun known) n.doing news n.told new (length window) o.in_hand window refl window_new o.same_length work o.worked o.window_is;
-    less = stage.less see begun laws n.lawful visits n.run k n.is_stage old lists (premise see begun known) n.doing news n.told new (length window) o.in_hand window refl window_new o.same_length work o.worked o.window_is;
-    keeps = stage.keeps-all see begun laws n.lawful visits n.run k n.is_stage old lists (premise see begun known) n.doing news n.told new (length window) o.in_hand window refl window_new o.same_length work o.worked o.window_is;
-    allowed = stage.may-visit see begun laws n.lawful visits n.run k n.is_stage old lists (premise see begun known) n.doing news n.told new (length window) o.in_hand window refl window_new o.same_length work o.worked o.window_is;
+    after = (stage.w see begun laws n.valid visits n.run k n.is_stage old lists (premise see begun known) n.doing news n.told new (length window) o.in_hand window refl window_new o.same_length work o.worked o.window_is).after;
+    doing = stage.done-now see begun laws n.valid visits n.run k n.is_stage old lists (premise see begun known) n.doing news n.told new (length window) o.in_hand window refl window_new o.same_length work o.worked o.window_is;
+    less = stage.less see begun laws n.valid visits n.run k n.is_stage old lists (premise see begun known) n.doing news n.told new (length window) o.in_hand window refl window_new o.same_length work o.worked o.window_is;
+    keeps = stage.keeps-all see begun laws n.valid visits n.run k n.is_stage old lists (premise see begun known) n.doing news n.told new (length window) o.in_hand window refl window_new o.same_length work o.worked o.window_is;
+    allowed = stage.may-visit see begun laws n.valid visits n.run k n.is_stage old lists (premise see begun known) n.doing news n.told new (length window) o.in_hand window refl window_new o.same_length work o.worked o.window_is;
   }
 
   pub stage-laws : StageLaws see
   stage-laws = record {
     more = λ begun part k lists given ended low low_later taken taken_later before before_later known known_later. doing-more see begun part k lists given ended low low_later taken taken_later before before_later (premise see begun known) (premise see begun known_later);
     first = first;
-    may_work = λ begun visits k part lists known news n. stage.may see begun laws n.lawful visits n.run k n.is_stage part lists (premise see begun known) n.doing news n.told;
+    may_work = λ begun visits k part lists known news n. stage.may see begun laws n.valid visits n.run k n.is_stage part lists (premise see begun known) n.doing news n.told;
     works = works;
-    so_far = λ begun input visits lawful is_list kept run. so-far-up_to see begun lawful laws input visits is_list kept run;
+    so_far = λ begun input visits valid is_list kept run. so-far-up_to see begun valid laws input visits is_list kept run;
   }

@@ -8,7 +8,7 @@ use Rattle.ts_outside.specs.Source.{SourceView}
 use Rattle.ts_outside.specs.Sink.{SinkView}
 use Rattle.chain_model.specs.PluginRule.{PluginRule, passing_rule}
 use Rattle.chain_model.specs.Apply.{StageList}
-use Rattle.chain_model.specs.StageLists.{rule_behind}
+use Rattle.chain_model.specs.StageLists.{rule_after}
 use Rattle.chain_model.specs.Joint.{joint_position}
 use Rattle.chain_core.specs.declared.news.News.{News}
 use Rattle.chain_core.specs.declared.stage_end.StageEnd.TheVariants.{WriteFault}
@@ -34,7 +34,7 @@ use Rattle.chain_run.proofs.TurnLemmas.{follows-news}
 use Rattle.chain_model.specs.InputRead.{MayRead}
 use Rattle.chain_run.specs.Runs.{RunStart}
 use Rattle.chain_run.specs.OneStage.{SoFarUpTo, IsInput, IsPlugin, IsOutput, Failed, Doing, MayBe}
-use Rattle.chain_run.specs.Ran.{IsLawfulRun}
+use Rattle.chain_run.specs.Ran.{IsValidRun}
 use Rattle.stage_run.specs.Works.{PartWork}
 use Rattle.chain_run.specs.Laws.{MachineLaws}
 use Rattle.chain_run.proofs.NumberLaws.{given-taken, taken-given, taken-falls, written-given, taken-ahead, taken-below}
@@ -66,10 +66,10 @@ left-parts all given len done le within =
     ∙ (drop-append-le done (take len (drop given all)) (drop len (drop given all)) (omega (arith, length-take len (drop given all), length-drop given all))
     ∙ ap (λ (l : List Cell). drop done (take len (drop given all)) ++ l) (drop-drop len given all)))
 
-pub rule_behind-passes : (rules : List PluginRule) (n : ℕ) → length rules ≡ n → rule_behind rules n ≡ passing_rule
-rule_behind-passes rules n is = ap (rule_behind rules) (sym is) ∙ past rules
+pub rule_after-passes : (rules : List PluginRule) (n : ℕ) → length rules ≡ n → rule_after rules n ≡ passing_rule
+rule_after-passes rules n is = ap (rule_after rules) (sym is) ∙ past rules
   where
-    past : (rs : List PluginRule) → rule_behind rs (length rs) ≡ passing_rule
+    past : (rs : List PluginRule) → rule_after rs (length rs) ≡ passing_rule
     past [] = refl
     past (r ∷ rs) = past rs
 
@@ -97,7 +97,7 @@ below-both None at' len' at len done a b lt = (omega arith, λ l is. cc)
 below-both (Some m) at' len' at len done a b lt = (omega arith, λ l is. let same : m ≡ l = cc in omega arith)
 
 module _ {S K P : Type 0} (see : Seeing S K P) (begun : RunStart S K)
-    (laws : MachineLaws) (r : IsLawfulRun begun)
+    (laws : MachineLaws) (r : IsValidRun begun)
     (visits : List Visit) (run-old : ChainRun begun.plan visits) (k : ℕ) (is_stage : k ≤ suc begun.plan.plugins) (part : StagePart S K P) (lists : PartLists) (Was : StageList → Type 0)
     (doing : Doing see begun part k lists ((state_after begun.plan visits).stages k).given None (written_of begun.plan (progress_of_stages (state_after begun.plan visits))) ((state_after begun.plan visits).stages k).taken (λ j. ((state_after begun.plan visits).stages j).given) Was)
     (news : News) (told : news ≡ news_of begun.plan (progress_of_stages (state_after begun.plan visits)) k) where
@@ -121,10 +121,10 @@ module _ {S K P : Type 0} (see : Seeing S K P) (begun : RunStart S K)
   may = record { goes_on = doing.stands_for; given = ap (λ (l : List Cell). length l) doing.given_is; mark = subst (λ n. lists.mark ≤ n) (sym written-is) doing.mark }
 
   pub written-below : news.written ≤ at
-  written-below = let a = written-given laws begun.plan r.lawful.users visits run-old k is_stage in let b = written-is in omega arith
+  written-below = let a = written-given laws begun.plan r.valid.users visits run-old k is_stage in let b = written-is in omega arith
 
   pub given-below : at ≤ news.taken
-  given-below = let a = given-taken laws begun.plan r.lawful.users visits run-old k in let b = taken-is in omega arith
+  given-below = let a = given-taken laws begun.plan r.valid.users visits run-old k in let b = taken-is in omega arith
 
   module _ (new_part : StagePart S K P) (len : ℕ) (in_hand : at + len ≤ news.taken) (window : List Cell) (window-length : length window ≡ len)
       (window_new : List Cell) (same_length : length window_new ≡ len) (work : Work)
@@ -155,7 +155,7 @@ module _ {S K P : Type 0} (see : Seeing S K P) (begun : RunStart S K)
     in_taken = let b = taken-is in omega arith
 
     taken-within : (old.stages k).taken ≤ low + begun.plan.buffer
-    taken-within = taken-ahead laws begun.plan r.lawful.users visits run-old k
+    taken-within = taken-ahead laws begun.plan r.valid.users visits run-old k
 
     abbrev all-given : List Cell
     all-given = (old.stages k).given ++ given
@@ -177,7 +177,7 @@ module _ {S K P : Type 0} (see : Seeing S K P) (begun : RunStart S K)
           (subst (λ n. read_for (length lists.given) n ≤ most) (sym window-length) (subst (λ n. read_for n len ≤ most) (sym lists-length) room)) in
           may_read begun.plan.buffer low at len (length lists.read) (length after.read) (doing.input first).within reads
           (let a = taken-within in let b = in_taken in omega arith)
-          (let a = taken-below laws begun.plan r.lawful.users visits run-old k in let b = in_taken in omega arith)
+          (let a = taken-below laws begun.plan r.valid.users visits run-old k in let b = in_taken in omega arith)
 
       own-input : IsInput see begun new_part after low
       own-input = record {
@@ -205,7 +205,7 @@ module _ {S K P : Type 0} (see : Seeing S K P) (begun : RunStart S K)
       all = (old.stages j).given
 
       taken-all : (old.stages k).taken ≤ length all
-      taken-all = subst (λ i. (old.stages i).taken ≤ length (old.stages j).given) e (taken-given laws begun.plan r.lawful.users visits run-old j)
+      taken-all = subst (λ i. (old.stages i).taken ≤ length (old.stages j).given) e (taken-given laws begun.plan r.valid.users visits run-old j)
 
       module _ (met : lists.met ≡ take at all) where
         met-new : after.met ≡ take (length all-given) all
@@ -222,7 +222,7 @@ module _ {S K P : Type 0} (see : Seeing S K P) (begun : RunStart S K)
             ∙ (ap (λ (l : List Cell). take at all ++ (l ++ take ((old.stages k).taken - (at + len)) (drop (at + len) all))) (window-is j e)
             ∙ sym (took-parts all at len (old.stages k).taken in_taken))
 
-        keeps-behind : (q : PluginRule) → rule_behind begun.rules j ≡ q → KeepsRule q lists window given word begun.plan.plugins j → (input : StageList) → Keeps begun.plan begun.rules input old visit
+        keeps-behind : (q : PluginRule) → rule_after begun.rules j ≡ q → KeepsRule q lists window given word begun.plan.plugins j → (input : StageList) → Keeps begun.plan begun.rules input old visit
         keeps-behind q is keeps input =
             subst (λ i. StageKeeps begun.rules input begun.plan.plugins i (took old i) (old.stages i).given given word) e
             (subst (λ (l : List Cell). StageKeeps begun.rules input begun.plan.plugins (suc j) l (old.stages (suc j)).given given word) (met-all ∙ ap (λ i. take (old.stages i).taken all) (sym e))
@@ -235,7 +235,7 @@ module _ {S K P : Type 0} (see : Seeing S K P) (begun : RunStart S K)
       plugin = doing.plugin j e lt
 
       own-plugin : IsPlugin see begun new_part j after all-given (old.stages j).given
-      own-plugin = record { kind = worked.same_kind ∙ plugin.kind; rule_is = worked.same_rule ∙ plugin.rule_is; room_is = worked.same_steady ∙ plugin.room_is; met = met-new j e (omega arith) plugin.met }
+      own-plugin = record { kind = worked.same_kind ∙ plugin.kind; rule_is = worked.same_rule ∙ plugin.rule_is; room_is = worked.same_preallocated ∙ plugin.room_is; met = met-new j e (omega arith) plugin.met }
 
       keeps-plugin : (input : StageList) → Keeps begun.plan begun.rules input old visit
       keeps-plugin =
@@ -253,7 +253,7 @@ module _ {S K P : Type 0} (see : Seeing S K P) (begun : RunStart S K)
 
       keeps-output : (input : StageList) → Keeps begun.plan begun.rules input old visit
       keeps-output =
-          keeps-behind begun.plan.plugins e (omega arith) output.met passing_rule (rule_behind-passes begun.rules begun.plan.plugins r.rules_are) (output-done.keeps begun.plan.plugins)
+          keeps-behind begun.plan.plugins e (omega arith) output.met passing_rule (rule_after-passes begun.rules begun.plan.plugins r.rules_are) (output-done.keeps begun.plan.plugins)
 
       -- where a write failed
       module _ (faulted : word.ended ≡ Some WriteFault) where
@@ -281,7 +281,7 @@ module _ {S K P : Type 0} (see : Seeing S K P) (begun : RunStart S K)
               | inl before ↦ before
               | inr due ↦ (let far = so_far [] visits refl in
                   let few = cut-before.0 in
-                  let known : limit_of begun.plan (progress_of_stages old) ≡ Some joint = far.limit_when_due joint is (λ i below. let a = taken-falls laws begun.plan r.lawful.users visits run-old k i (omega (arith, e)) in let b = in_taken in omega arith) in
+                  let known : limit_of begun.plan (progress_of_stages old) ≡ Some joint = far.limit_when_due joint is (λ i below. let a = taken-falls laws begun.plan r.valid.users visits run-old k i (omega (arith, e)) in let b = in_taken in omega arith) in
                   cut-before.1 joint (ap (λ (n : News). n.limit) told ∙ known))
             ]
 
@@ -327,7 +327,7 @@ module _ {S K P : Type 0} (see : Seeing S K P) (begun : RunStart S K)
       stands_for = w.stands;
       given_is = w.behind.given ∙ ap (λ (l : List Cell). l ++ given) doing.given_is;
       mark = (let a = w.behind.mark in let b = written-is in omega arith);
-      memory = λ e. wants-more see part new_part (news.taken - news.written) begun.plan.buffer worked.same_kind worked.same_steady
+      memory = λ e. wants-more see part new_part (news.taken - news.written) begun.plan.buffer worked.same_kind worked.same_preallocated
           (let a = taken-within in let b = taken-is in let c = written-is in omega arith) (worked.stage.memory e);
       input = own-input;
       plugin = own-plugin;

@@ -10,15 +10,15 @@ use Rattle.ts_outside.specs.Source.{SourceView, own_bytes}
 use Rattle.ts_outside.specs.Sink.{SinkView}
 use Rattle.chain_model.specs.PluginRule.{PluginRule}
 use Rattle.chain_model.specs.Apply.{StageList, last_passed}
-use Rattle.chain_model.specs.StageLists.{rule_behind}
+use Rattle.chain_model.specs.StageLists.{rule_after}
 use Rattle.chain_core.specs.declared.core_plan.CorePlan.{CorePlan}
 use Rattle.chain_core.specs.Numbers.{written_of}
 use Rattle.chain_core.specs.Machine.{start, progress_of_stages}
 use Rattle.chain_core.specs.ChainRun.{state_after, took}
-use Rattle.chain_core.specs.CoreNumbers.{CoreNumbers, IsLawfulPlan, StandsFor}
+use Rattle.chain_core.specs.CoreNumbers.{CoreNumbers, IsValidPlan, StandsFor}
 use Rattle.chain_core.specs.Keeps.{StageKeeps}
 use Rattle.plugin_trait.specs.declared.heard.Heard.{Heard}
-use Rattle.stage_run.specs.Seeing.{Seeing, heard_rule, heard_stands, heard_steady}
+use Rattle.stage_run.specs.Seeing.{Seeing, heard_rule, heard_stands, heard_preallocated}
 use Rattle.stage_run.specs.declared.input_part.InputPart.{InputPart}
 use Rattle.stage_run.specs.declared.input_part.InputPart.TheVariants as input
 use Rattle.stage_run.specs.declared.output_part.OutputPart.{OutputPart}
@@ -76,7 +76,7 @@ module _ (rules : List PluginRule) (input : StageList) (plugins : ℕ) where
       subst (λ (l : List Cell). StageKeeps rules input plugins (suc j) l [] [] nothing_told) (sym none)
       (record {
         list = record { gives = ([], refl); ends = λ end e. cc; last_at_once = λ last. (let e : None ≡ Some last_passed = last.ended in cc) };
-        agreement = silent (rule_behind rules j) [] 0 (0 + 0) (omega arith);
+        agreement = silent (rule_after rules j) [] 0 (0 + 0) (omega arith);
       })
 
 module _ {S K P : Type 0} (see : Seeing S K P) where
@@ -91,17 +91,17 @@ module _ {S K P : Type 0} (see : Seeing S K P) where
     pub plugin : Heard P
     pub is : MadeOf see part plugin
     pub rule_is : r ≡ heard_rule see plugin
-    pub room_is : room ≡ heard_steady see plugin
+    pub room_is : room ≡ heard_preallocated see plugin
     pub fresh : heard_stands see plugin [] 0
 
-  made-at : (made rest : List (StagePart S K P)) (plugins : List (Heard P)) (j : ℕ) (d : StagePart S K P) → AreMadeOf see made plugins → AreFresh (heard_stands see) plugins → j < length plugins → MadeAt (slice_index_or (made ++ rest) j d) (rule_behind (map (heard_rule see) plugins) j) (slice_index_or (map (heard_steady see) plugins) j None)
+  made-at : (made rest : List (StagePart S K P)) (plugins : List (Heard P)) (j : ℕ) (d : StagePart S K P) → AreMadeOf see made plugins → AreFresh (heard_stands see) plugins → j < length plugins → MadeAt (slice_index_or (made ++ rest) j d) (rule_after (map (heard_rule see) plugins) j) (slice_index_or (map (heard_preallocated see) plugins) j None)
   made-at [] rest [] j d are fresh lt = absurd (omega arith)
   made-at [] rest (plugin ∷ plugins) j d are fresh lt = absurd are
   made-at (part ∷ made) rest [] j d are fresh lt = absurd are
   made-at (part ∷ made) rest (plugin ∷ plugins) zero d are fresh lt = record { plugin = plugin; is = are.0; rule_is = refl; room_is = refl; fresh = fresh.0 }
   made-at (part ∷ made) rest (plugin ∷ plugins) (suc j) d are fresh lt = made-at made rest plugins j d are.1 fresh.1 (omega arith)
 
-  module _ (plan : CorePlan) (lawful : IsLawfulPlan plan)
+  module _ (plan : CorePlan) (valid : IsValidPlan plan)
       (from : InputPart S) (stuffing : Stuffing) (to : OutputPart K) (plugins : List (Heard P)) (fresh : AreFresh (heard_stands see) plugins) (number : plan.plugins ≡ length plugins)
       (opens : (plugin : P) (history : List Cell) (mark : ℕ) → see.stands plugin history mark → (see.rule plugin).agrees [] ≡ false)
       (first out : StagePart S K P) (made : List (StagePart S K P)) (are : AreMadeOf see made plugins)
@@ -111,7 +111,7 @@ module _ {S K P : Type 0} (see : Seeing S K P) where
       (out_kind : kind_of out ≡ an_output) (out_stream : stream_kind out ≡ sink_kind to)
       (out_stands : (source : SourceView) (sink : SinkView) (mark : ℕ) → IsSinkOf see.sink to sink → PartStands see out (fresh_lists source sink mark) None) where
     abbrev pub began : RunStart S K
-    began = record { from = from; to = to; stuffing = stuffing_of stuffing; rules = map (heard_rule see) plugins; rooms = map (heard_steady see) plugins; plan = plan }
+    began = record { from = from; to = to; stuffing = stuffing_of stuffing; rules = map (heard_rule see) plugins; rooms = map (heard_preallocated see) plugins; plan = plan }
 
     abbrev parts : List (StagePart S K P)
     parts = first ∷ (made ++ out ∷ [])
@@ -150,7 +150,7 @@ module _ {S K P : Type 0} (see : Seeing S K P) where
         record {
           kind = here.is.kind;
           rule_is = here.is.same_rule ∙ sym here.rule_is;
-          room_is = here.is.same_steady ∙ sym here.room_is;
+          room_is = here.is.same_preallocated ∙ sym here.room_is;
           met = refl;
         }
 
@@ -177,9 +177,9 @@ module _ {S K P : Type 0} (see : Seeing S K P) where
     pub new-row : IsNewRow see began parts
     new-row = record {
       run = record {
-        lawful = lawful;
+        valid = valid;
         rules_are = length-map plugins (heard_rule see) ∙ sym number;
-        rooms_are = length-map plugins (heard_steady see) ∙ sym number;
+        rooms_are = length-map plugins (heard_preallocated see) ∙ sym number;
         agree_late = rules-open (heard_rule see) (heard_stands see) plugins fresh (λ heard history mark stands. opens heard.plugin history mark stands.holds);
       };
       stages_are = parts-length;

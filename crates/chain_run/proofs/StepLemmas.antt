@@ -12,7 +12,7 @@ use Rattle.chain_core.specs.declared.stage_word.StageWord.{StageWord}
 use Rattle.chain_core.specs.Numbers.{written_of}
 use Rattle.chain_core.specs.Machine.{ChainState, StageState, Visit, progress_of_stages, visit_of, Allowed}
 use Rattle.chain_core.specs.ChainRun.{ChainRun, state_after}
-use Rattle.chain_core.specs.CoreNumbers.{CoreNumbers, IsLawfulPlan, StandsFor}
+use Rattle.chain_core.specs.CoreNumbers.{CoreNumbers, IsValidPlan, StandsFor}
 use Rattle.chain_core.specs.Keeps.{Keeps}
 use Rattle.stage_run.specs.Seeing.{Seeing}
 use Rattle.stage_run.specs.declared.stage_part.StagePart.{StagePart}
@@ -87,7 +87,7 @@ module _ {S K P : Type 0} (see : Seeing S K P) (begun : RunStart S K) where
 
   -- ---- a visit
 
-  module _ (laws : MachineLaws) (lawful : IsLawfulPlan begun.plan) (core new_core : CoreNumbers) (parts : List (StagePart S K P)) (cells new_cells : List Cell) (visits : List Visit) (part : ℕ → StagePart S K P) (lists : ℕ → PartLists)
+  module _ (laws : MachineLaws) (valid : IsValidPlan begun.plan) (core new_core : CoreNumbers) (parts : List (StagePart S K P)) (cells new_cells : List Cell) (visits : List Visit) (part : ℕ → StagePart S K P) (lists : ℕ → PartLists)
       (by : RunsBy see begun core parts cells visits part lists)
       (k : ℕ) (given : List Cell) (word : StageWord) (is_stage : k ≤ suc begun.plan.plugins)
       (allowed : Allowed begun.plan (state_after begun.plan visits) (visit_of k given word))
@@ -118,22 +118,22 @@ module _ {S K P : Type 0} (see : Seeing S K P) (begun : RunStart S K) where
           pick (λ p l. (input : StageList) → PartGives see p l input → PartGives see (part 0) (lists 0) input) part lists k new_part after 0 own.less (λ apart input gives. gives)
 
       other : (j : ℕ) → j ≢ k → new.stages j ≡ old.stages j
-      other = stage-other laws begun.plan lawful.users visits (visit_of k given word) run
+      other = stage-other laws begun.plan valid.users visits (visit_of k given word) run
 
       grows : written_of begun.plan (progress_of_stages old) ≤ written_of begun.plan (progress_of_stages new)
-      grows = written-grows laws begun.plan lawful.users visits (visit_of k given word) run
+      grows = written-grows laws begun.plan valid.users visits (visit_of k given word) run
 
       more : (j : ℕ) → (l : List Cell) × ((new.stages j).given ≡ (old.stages j).given ++ l)
-      more = given-more laws begun.plan lawful.users visits (visit_of k given word) run
+      more = given-more laws begun.plan valid.users visits (visit_of k given word) run
 
       falls : (j : ℕ) → length (old.stages (suc j)).given ≤ length (old.stages j).given
-      falls j = given-falls laws begun.plan lawful.users visits by.ran.run (suc j) j (omega arith)
+      falls j = given-falls laws begun.plan valid.users visits by.ran.run (suc j) j (omega arith)
 
       going : (input : StageList) → Gives input → (j : ℕ) → (new.stages j).ended ≡ None → Keeps begun.plan begun.rules input new (visit_of j [] nothing_told)
       going input gives j ended =
           elim (cases_eq j k) [
             | inl same ↦ subst (λ i. Keeps begun.plan begun.rules input new (visit_of i [] nothing_told)) (sym same) (own.going input (less-all input gives) gives (subst (λ i. (new.stages i).ended ≡ None) same ended))
-            | inr apart ↦ (laws.leaves begun.plan visits (visit_of k given word) lawful.users run).keeps begun.rules input (visit_of j [] nothing_told) apart (by.going input (less-all input gives) j (ap (λ (s : StageState). s.ended) (sym (other j apart)) ∙ ended))
+            | inr apart ↦ (laws.leaves begun.plan visits (visit_of k given word) valid.users run).keeps begun.rules input (visit_of j [] nothing_told) apart (by.going input (less-all input gives) j (ap (λ (s : StageState). s.ended) (sym (other j apart)) ∙ ended))
           ]
 
       -- a stage that was not visited stands for what it stood for

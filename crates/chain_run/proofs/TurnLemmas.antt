@@ -42,7 +42,7 @@ follows-news plan progress k now is =
       | inl before ↦ inl before
       | inr not_before ↦ elim (cases_Bool (is_after_over plan progress k)) [
         | inl behind ↦ inr (inl behind)
-        | inr not_behind ↦ inr (inr (reached (limit_of plan progress) refl (sym (or-none (is_before_over progress k) (is_after_over plan progress k) (is_reached (limit_of plan progress) now) not_before not_behind) ∙ is)))
+        | inr not_after ↦ inr (inr (reached (limit_of plan progress) refl (sym (or-none (is_before_over progress k) (is_after_over plan progress k) (is_reached (limit_of plan progress) now) not_before not_after) ∙ is)))
       ]
     ]
   where

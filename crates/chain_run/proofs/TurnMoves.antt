@@ -100,7 +100,7 @@ module _ {S K P : Type 0} (see : Seeing S K P)
       still-less (m1 k) (m2 k) work.done (ap (λ (m : Progress). m.ended) (looked.by.numbers.progress k) ∙ looked.open_) moved-given
       (let a = given-le see laws begun core1 parts cells k news looked parts_new cells_new work works in
       let b = taken-is see laws begun core1 parts cells k news looked parts_new cells_new work works in
-      let c = taken-below laws begun.plan looked.fits.run.lawful.users looked.visits looked.by.ran.run k in let d = at-is in omega arith)
+      let c = taken-below laws begun.plan looked.fits.run.valid.users looked.visits looked.by.ran.run k in let d = at-is in omega arith)
       (elim some [
         | inl done ↦ inl done
         | inr over ↦ inr (ap is_some moved-ended ∙ over)
@@ -135,7 +135,7 @@ module _ {S K P : Type 0} (see : Seeing S K P)
 
     held : (m0 k).given ≤ (m0 k).taken
     held =
-        let a = given-taken laws begun.plan goes.fits.run.lawful.users goes.runs.visits goes.runs.by.ran.run k in
+        let a = given-taken laws begun.plan goes.fits.run.valid.users goes.runs.visits goes.runs.by.ran.run k in
         let b = goes.runs.by.numbers.progress k in
         let c : (m0 k).given ≡ length ((state_after begun.plan goes.runs.visits).stages k).given = ap (λ (m : Progress). m.given) b in
         let d : (m0 k).taken ≡ ((state_after begun.plan goes.runs.visits).stages k).taken = ap (λ (m : Progress). m.taken) b in
@@ -164,7 +164,7 @@ module _ {S K P : Type 0} (see : Seeing S K P)
 
     idle0 : IsIdle begun.plan m0 k
     idle0 = record {
-      took_all = none-waits begun.plan m0 m1 k took0 held empty goes.fits.run.lawful.most;
+      took_all = none-waits begun.plan m0 m1 k took0 held empty goes.fits.run.valid.most;
       gave_all = subst (λ (m : StagesProgress). (m k).taken ≤ (m k).given) first-same empty;
       not_following = not-following begun.plan m0 k (m0 k).given
           (subst (λ (m : StagesProgress). may_follow (news_of begun.plan m k) (m k).given ≡ false) first-same

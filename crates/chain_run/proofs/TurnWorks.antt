@@ -58,7 +58,7 @@ module _ {S K P : Type 0} (see : Seeing S K P)
     quiet-allowed = record {
       is_stage = is_stage';
       goes_on = open-state;
-      held = (let a = given-taken laws begun.plan goes.fits.run.lawful.users goes.runs.visits by.ran.run k in omega arith);
+      held = (let a = given-taken laws begun.plan goes.fits.run.valid.users goes.runs.visits by.ran.run k in omega arith);
       agreement = λ agreed e. cc;
       below_limit = λ o limit t lt. absurd (omega arith);
       follows = λ e. cc;
@@ -95,7 +95,7 @@ module _ {S K P : Type 0} (see : Seeing S K P)
       let numbers : StandsFor new (state_after begun.plan (quiet ∷ goes.runs.visits)) =
       subst (λ (s : ChainState). StandsFor new s) (sym (after-visit begun.plan goes.runs.visits quiet))
       (subst (λ (p : CorePlan). StandsFor new (visited p state quiet)) goes.fits.plan_is (visited_is state [] refl by.numbers)) in
-      let changed = change laws begun.plan goes.fits.run.lawful.users goes.runs.visits quiet (by.ran.run, allowed) in
+      let changed = change laws begun.plan goes.fits.run.valid.users goes.runs.visits quiet (by.ran.run, allowed) in
       let told : news ≡ news_of begun.plan (progress_of_stages (state_after begun.plan (quiet ∷ goes.runs.visits))) k =
       subst (λ (s : ChainState). news ≡ news_of begun.plan (progress_of_stages s) k) (sym (after-visit begun.plan goes.runs.visits quiet))
       (subst (λ (p : CorePlan). news ≡ news_after p state quiet) goes.fits.plan_is (news_is state [] refl by.numbers)) in
@@ -109,7 +109,7 @@ module _ {S K P : Type 0} (see : Seeing S K P)
         visits = quiet ∷ goes.runs.visits;
         part = set_at goes.runs.part k (goes.runs.part k);
         lists = set_at goes.runs.lists k (goes.runs.lists k);
-        by = quiet-visit see begun laws goes.fits.run.lawful core new parts cells goes.runs.visits goes.runs.part goes.runs.lists by k stage
+        by = quiet-visit see begun laws goes.fits.run.valid core new parts cells goes.runs.visits goes.runs.part goes.runs.lists by k stage
             (open-state core parts cells goes k is_stage open_) allowed numbers (let a = goes.fits.stages_are in omega arith);
         is_stage = stage;
         open_ = changed.ended;
@@ -138,7 +138,7 @@ module _ {S K P : Type 0} (see : Seeing S K P)
 
     pub work-taken : news.taken ≤ 2 ^ 60
     work-taken =
-        let a = taken-below laws begun.plan looked.fits.run.lawful.users looked.visits looked.by.ran.run k in
+        let a = taken-below laws begun.plan looked.fits.run.valid.users looked.visits looked.by.ran.run k in
         let b : news.taken ≡ (now.stages k).taken = ap (λ (n : News). n.taken) looked.told in omega arith
 
     pub work-stands : (d : StagePart S K P) → MayWorkOnSome (PartStands see (slice_index_or parts k d)) (progress_of_core core k).given news.written

@@ -23,7 +23,7 @@ use Rattle.stage_run.specs.Works.{Works, WorksByKind, PartWork}
 use Rattle.chain_run.specs.Slots.{slot, HoldsFrom}
 use Rattle.chain_run.specs.Runs.{between, RunStart}
 use Rattle.chain_run.specs.OneStage.{Doing, MayBe, SoFarUpTo, StandsIn}
-use Rattle.chain_run.specs.Ran.{IsLawfulRun}
+use Rattle.chain_run.specs.Ran.{IsValidRun}
 use Rattle.chain_run.specs.SerialRuns.{RunsBy}
 use Rattle.chain_run.specs.Laws.{MachineLaws}
 use Rattle.chain_run.proofs.NumberLaws.{change, stage-other, written-grows, given-falls, given-more, given-taken, taken-given, taken-falls, written-given, taken-ahead}
@@ -35,7 +35,7 @@ use Rattle.chain_run.proofs.StageVisit as stage
 use Rattle.chain_run.proofs.StageVisit.{left-parts}
 
 module _ {S K P : Type 0} (see : Seeing S K P) (begun : RunStart S K)
-    (laws : MachineLaws) (r : IsLawfulRun begun)
+    (laws : MachineLaws) (r : IsValidRun begun)
     (core new_core : CoreNumbers) (parts : List (StagePart S K P)) (cells : List Cell) (visits : List Visit) (part : ℕ → StagePart S K P) (lists : ℕ → PartLists)
     (by : RunsBy see begun core parts cells visits part lists)
     (k : ℕ) (is_stage : k ≤ suc begun.plan.plugins) (ended : ((state_after begun.plan visits).stages k).ended ≡ None)
@@ -95,12 +95,12 @@ module _ {S K P : Type 0} (see : Seeing S K P) (begun : RunStart S K)
     in_taken = let b = taken-is in omega arith
 
     taken-within : (old.stages k).taken ≤ low + begun.plan.buffer
-    taken-within = taken-ahead laws begun.plan r.lawful.users visits by.ran.run k
+    taken-within = taken-ahead laws begun.plan r.valid.users visits by.ran.run k
 
     -- the cells after those that the stage gave stand in the buffer
     module _ (j : ℕ) (e : suc j ≡ k) (le : j ≤ begun.plan.plugins) where
       taken-all : (old.stages k).taken ≤ length (old.stages j).given
-      taken-all = subst (λ i. (old.stages i).taken ≤ length (old.stages j).given) e (taken-given laws begun.plan r.lawful.users visits by.ran.run j)
+      taken-all = subst (λ i. (old.stages i).taken ≤ length (old.stages j).given) e (taken-given laws begun.plan r.valid.users visits by.ran.run j)
 
       held : HoldsFrom (slot cells) at (drop at (old.stages j).given)
       held =
@@ -141,19 +141,19 @@ module _ {S K P : Type 0} (see : Seeing S K P) (begun : RunStart S K)
       Gives input = PartGives see (set_at part k new_part 0) (set_at lists k after 0) input
 
       abbrev Own_ : Type 0
-      Own_ = Own see begun laws r.lawful core new_core parts cells new_cells visits part lists by k given word is_stage allowed new_part after
+      Own_ = Own see begun laws r.valid core new_core parts cells new_cells visits part lists by k given word is_stage allowed new_part after
 
       changed : (new.stages k).given ≡ (old.stages k).given ++ given
-      changed = (change laws begun.plan r.lawful.users visits (visit_of k given word) run).given
+      changed = (change laws begun.plan r.valid.users visits (visit_of k given word) run).given
 
       new-length : length (new.stages k).given ≡ at + work.done
       new-length = let a = given-length in omega (arith, ap (λ (l : List Cell). length l) changed, length-append (old.stages k).given given)
 
       ended-is : (new.stages k).ended ≡ word.ended
-      ended-is = (change laws begun.plan r.lawful.users visits (visit_of k given word) run).ended
+      ended-is = (change laws begun.plan r.valid.users visits (visit_of k given word) run).ended
 
       given_same : (j : ℕ) → j ≢ k → (new.stages j).given ≡ (old.stages j).given
-      given_same j apart = ap (λ (s : StageState). s.given) (stage-other laws begun.plan r.lawful.users visits (visit_of k given word) run j apart)
+      given_same j apart = ap (λ (s : StageState). s.given) (stage-other laws begun.plan r.valid.users visits (visit_of k given word) run j apart)
 
       apart-of : (j : ℕ) → suc j ≡ k → j ≢ k
       apart-of j e same = absurd (omega (arith, same, e))
@@ -194,8 +194,8 @@ module _ {S K P : Type 0} (see : Seeing S K P) (begun : RunStart S K)
           (subst (λ (g : List Cell). Doing see begun new_part k after g word.ended (written_of begun.plan (progress_of_stages new)) (new.stages k).taken (λ i. (new.stages i).given) Gives) (sym changed)
           (doing-more see begun new_part k after ((old.stages k).given ++ given) word.ended low (written_of begun.plan (progress_of_stages new)) (old.stages k).taken (new.stages k).taken
           gave (λ i. (new.stages i).given) (SoFarUpTo begun.plan begun.rules visits) Gives
-          (written-grows laws begun.plan r.lawful.users visits (visit_of k given word) run) (change laws begun.plan r.lawful.users visits (visit_of k given word) run).no_less
-          (λ j e. let more = given-more laws begun.plan r.lawful.users visits (visit_of k given word) run j in (more.0, more.1, behind j e))
+          (written-grows laws begun.plan r.valid.users visits (visit_of k given word) run) (change laws begun.plan r.valid.users visits (visit_of k given word) run).no_less
+          (λ j e. let more = given-more laws begun.plan r.valid.users visits (visit_of k given word) run j in (more.0, more.1, behind j e))
           (λ input gives. far-up_to see begun r laws parts visits part lists by.ran input (less-all input gives)) done-now))
 
       -- ---- the buffer
@@ -209,19 +209,19 @@ module _ {S K P : Type 0} (see : Seeing S K P) (begun : RunStart S K)
       -- other positions stay as they were
       stays : length cells ≡ begun.plan.buffer → (p : ℕ) → low ≤ p → p < low + begun.plan.buffer → (p < at) ⊎ (at + len ≤ p) → slot new_cells p ≡ slot cells p
       stays slots p above below outside =
-          row-other cells at window_new low p row-fits (written-given laws begun.plan r.lawful.users visits by.ran.run k is_stage) (let a = in_taken in let b = taken-within in omega (arith, same_length)) above (omega arith)
+          row-other cells at window_new low p row-fits (written-given laws begun.plan r.valid.users visits by.ran.run k is_stage) (let a = in_taken in let b = taken-within in omega (arith, same_length)) above (omega arith)
           (subst (λ n. (p < at) ⊎ (at + n ≤ p)) (sym same_length) outside)
 
       module _ (slots : length cells ≡ begun.plan.buffer) where
         -- a row of cells between two stages is within reach
         position-low : (j p : ℕ) → j ≤ begun.plan.plugins → length (old.stages (suc j)).given ≤ p → low ≤ p
-        position-low j p le from = let a = written-given laws begun.plan r.lawful.users visits by.ran.run (suc j) (omega arith) in omega arith
+        position-low j p le from = let a = written-given laws begun.plan r.valid.users visits by.ran.run (suc j) (omega arith) in omega arith
 
         position-high : (j p : ℕ) → p < length (old.stages j).given → p < low + begun.plan.buffer
         position-high j p below =
-            let a = given-falls laws begun.plan r.lawful.users visits by.ran.run j 0 (omega arith) in
-            let b = given-taken laws begun.plan r.lawful.users visits by.ran.run 0 in
-            let c = taken-ahead laws begun.plan r.lawful.users visits by.ran.run 0 in
+            let a = given-falls laws begun.plan r.valid.users visits by.ran.run j 0 (omega arith) in
+            let b = given-taken laws begun.plan r.valid.users visits by.ran.run 0 in
+            let c = taken-ahead laws begun.plan r.valid.users visits by.ran.run 0 in
             omega arith
 
         between-end : (j p : ℕ) → p < length (old.stages (suc j)).given + length (between old j) → length (old.stages (suc j)).given ≤ p → p < length (old.stages j).given
@@ -236,13 +236,13 @@ module _ {S K P : Type 0} (see : Seeing S K P) (begun : RunStart S K)
             (by.buffer j le)
           where
             outside : (j p : ℕ) → (suc j < k) ⊎ (k ≤ j) → length (old.stages (suc j)).given ≤ p → p < length (old.stages j).given → (p < at) ⊎ (at + len ≤ p)
-            outside j p (inl before) from below = (let a = taken-falls laws begun.plan r.lawful.users visits by.ran.run k (suc j) before in let b = in_taken in inr (omega arith))
-            outside j p (inr behind) from below = (let a = given-falls laws begun.plan r.lawful.users visits by.ran.run j k behind in inl (omega arith))
+            outside j p (inl before) from below = (let a = taken-falls laws begun.plan r.valid.users visits by.ran.run k (suc j) before in let b = in_taken in inr (omega arith))
+            outside j p (inr behind) from below = (let a = given-falls laws begun.plan r.valid.users visits by.ran.run j k behind in inl (omega arith))
 
         -- the stage gives its cells on
         gives-on : k ≤ begun.plan.plugins → HoldsFrom (slot new_cells) (length (new.stages (suc k)).given) (between new k)
         gives-on le =
-            let below : length (old.stages (suc k)).given ≤ at = given-falls laws begun.plan r.lawful.users visits by.ran.run (suc k) k (omega arith) in
+            let below : length (old.stages (suc k)).given ≤ at = given-falls laws begun.plan r.valid.users visits by.ran.run (suc k) k (omega arith) in
             let old-part : HoldsFrom (slot new_cells) (length (old.stages (suc k)).given) (between old k) = frame k le (inr (omega arith)) in
             let more : HoldsFrom (slot new_cells) (length (old.stages (suc k)).given + length (between old k)) given =
             subst (λ n. HoldsFrom (slot new_cells) n given) (let a = length-drop (length (old.stages (suc k)).given) (old.stages k).given in omega arith) (holds-take (slot new_cells) at work.done window_new row-holds) in
@@ -265,7 +265,7 @@ module _ {S K P : Type 0} (see : Seeing S K P) (begun : RunStart S K)
             (holds-drop (slot cells) at len (drop at (old.stages j).given) (let a = taken-all j e le in let b = in_taken in omega (arith, length-drop at (old.stages j).given)) (held j e le)) in
             let far : HoldsFrom (slot new_cells) (at + len) (drop (at + len) (old.stages j).given) =
             holds-same (slot cells) (slot new_cells) (at + len) (drop (at + len) (old.stages j).given)
-            (λ p from below. stays slots p (let a = written-given laws begun.plan r.lawful.users visits by.ran.run k is_stage in omega arith)
+            (λ p from below. stays slots p (let a = written-given laws begun.plan r.valid.users visits by.ran.run k is_stage in omega arith)
             (position-high j p (let a = taken-all j e le in let b = in_taken in omega (arith, length-drop (at + len) (old.stages j).given))) (inr from)) far-old in
             let front-length : at + work.done + length (drop work.done (take len (drop at (old.stages j).given))) ≡ at + len =
             let a = taken-all j e le in let b = in_taken in let c = done-le in
@@ -305,7 +305,7 @@ module _ {S K P : Type 0} (see : Seeing S K P) (begun : RunStart S K)
         own = record {
           less = less-own;
           keeps = λ input was gives. keeps-all input gives;
-          going = λ input was gives none. going-own laws begun.plan begun.rules input r.lawful visits given word k run (sym ended-is ∙ none) (keeps-all input gives);
+          going = λ input was gives none. going-own laws begun.plan begun.rules input r.valid visits given word k run (sym ended-is ∙ none) (keeps-all input gives);
           stands = stands;
           buffer = buffer-all;
         }
@@ -314,4 +314,4 @@ module _ {S K P : Type 0} (see : Seeing S K P) (begun : RunStart S K)
         pub worked-visit : StandsFor new_core new → suc begun.plan.plugins < length parts
             → RunsBy see begun new_core (slice_set parts k new_part) new_cells (visit_of k given word ∷ visits) (set_at part k new_part) (set_at lists k after)
         worked-visit numbers long =
-            stepped see begun laws r.lawful core new_core parts cells new_cells visits part lists by k given word is_stage allowed new_part after numbers long own
+            stepped see begun laws r.valid core new_core parts cells new_cells visits part lists by k given word is_stage allowed new_part after numbers long own

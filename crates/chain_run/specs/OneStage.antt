@@ -3,7 +3,7 @@ use Rattle.std.specs.Prelude.{◌≡◌, ℕ, suc, ◌<◌, ◌≤◌, List, ◌
 use Rattle.ts_packet.specs.declared.cell.Cell.{Cell}
 use Rattle.chain_model.specs.PluginRule.{PluginRule}
 use Rattle.chain_model.specs.Apply.{StageList}
-use Rattle.chain_model.specs.StageLists.{rule_behind}
+use Rattle.chain_model.specs.StageLists.{rule_after}
 use Rattle.chain_model.specs.Joint.{joint_position}
 use Rattle.chain_core.specs.declared.core_plan.CorePlan.{CorePlan}
 use Rattle.chain_core.specs.declared.stage_end.StageEnd.{StageEnd}
@@ -16,7 +16,7 @@ use Rattle.chain_core.specs.EveryOrder.{SoFar}
 use Rattle.stage_run.specs.Seeing.{Seeing}
 use Rattle.stage_run.specs.declared.stage_part.StagePart.{StagePart}
 use Rattle.stage_run.specs.PartLists.{PartLists}
-use Rattle.stage_run.specs.PartStands.{PartStands, PartGives, MayWantMemory, rule_of, steady_of, kind_of, stuffing_in, source_kind, sink_kind, stream_kind, an_input, a_plugin, an_output}
+use Rattle.stage_run.specs.PartStands.{PartStands, PartGives, MayWantMemory, rule_of, preallocated_of, kind_of, stuffing_in, source_kind, sink_kind, stream_kind, an_input, a_plugin, an_output}
 use Rattle.chain_model.specs.Written.{IsPartOfFirst}
 use Rattle.stage_run.specs.Parts.{IsListOf, IsSourceOf, IsSinkOf}
 use Rattle.chain_model.specs.InputRead.{MayRead}
@@ -41,8 +41,8 @@ module _ {S K P : Type 0} (see : Seeing S K P) (begun : RunStart S K) where
   pub record IsPlugin (part : StagePart S K P) (j : ℕ) (lists : PartLists) (given before : List Cell)
       : Type 0 where
     pub kind : kind_of part ≡ a_plugin
-    pub rule_is : rule_of see part ≡ rule_behind begun.rules j
-    pub room_is : steady_of see part ≡ slice_index_or begun.rooms j None
+    pub rule_is : rule_of see part ≡ rule_after begun.rules j
+    pub room_is : preallocated_of see part ≡ slice_index_or begun.rooms j None
     pub met : lists.met ≡ take (length given) before
 
   -- a write failed in the packet of the next cell, and no joint position is so near

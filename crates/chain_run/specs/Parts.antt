@@ -4,10 +4,10 @@ use Rattle.ts_outside.specs.Source.{SourceView}
 use Rattle.ts_outside.specs.Sink.{SinkView}
 use Rattle.chain_core.specs.declared.stage_end.StageEnd.{StageEnd}
 use Rattle.plugin_trait.specs.declared.heard.Heard.{Heard}
-use Rattle.stage_run.specs.Seeing.{Seeing, heard_rule, heard_stands, heard_steady}
+use Rattle.stage_run.specs.Seeing.{Seeing, heard_rule, heard_stands, heard_preallocated}
 use Rattle.stage_run.specs.declared.stage_part.StagePart.{StagePart}
 use Rattle.stage_run.specs.PartLists.{PartLists, fresh_lists}
-use Rattle.stage_run.specs.PartStands.{PartStands, PartGives, kind_of, rule_of, steady_of, stuffing_in, source_kind, sink_kind, stream_kind, an_input, a_plugin, an_output}
+use Rattle.stage_run.specs.PartStands.{PartStands, PartGives, kind_of, rule_of, preallocated_of, stuffing_in, source_kind, sink_kind, stream_kind, an_input, a_plugin, an_output}
 use Rattle.stage_run.specs.Parts.{LeavesInput, LeavesOutput, SomeList}
 use Rattle.stage_run.specs.declared.input_part.InputPart.{InputPart}
 use Rattle.stage_run.specs.declared.output_part.OutputPart.{OutputPart}
@@ -18,7 +18,7 @@ module _ {S K P : Type 0} (see : Seeing S K P) where
   pub record MadeOf (part : StagePart S K P) (plugin : Heard P) : Type 0 where
     pub kind : kind_of part ≡ a_plugin
     pub same_rule : rule_of see part ≡ heard_rule see plugin
-    pub same_steady : steady_of see part ≡ heard_steady see plugin
+    pub same_preallocated : preallocated_of see part ≡ heard_preallocated see plugin
     pub fresh : (source : SourceView) (sink : SinkView) (mark : ℕ) → heard_stands see plugin [] mark
         → PartStands see part (fresh_lists source sink mark) None
 

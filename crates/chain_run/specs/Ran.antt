@@ -6,7 +6,7 @@ use Rattle.chain_core.specs.declared.closed.Closed.{Closed}
 use Rattle.chain_core.specs.Machine.{Visit, ChainState, progress_of_stages}
 use Rattle.chain_core.specs.ChainRun.{ChainRun, state_after, AllEnded}
 use Rattle.chain_core.specs.Close.{closed_of}
-use Rattle.chain_core.specs.CoreNumbers.{IsLawfulPlan}
+use Rattle.chain_core.specs.CoreNumbers.{IsValidPlan}
 use Rattle.chain_core.specs.Keeps.{AllKeep}
 use Rattle.stage_run.specs.Seeing.{Seeing}
 use Rattle.stage_run.specs.declared.stage_part.StagePart.{StagePart}
@@ -16,8 +16,8 @@ use Rattle.chain_run.specs.Runs.{RunStart}
 use Rattle.chain_run.specs.OneStage.{StandsIn}
 
 -- what every run has
-pub record IsLawfulRun {S K : Type 0} (begun : RunStart S K) : Type 0 where
-  pub lawful : IsLawfulPlan begun.plan
+pub record IsValidRun {S K : Type 0} (begun : RunStart S K) : Type 0 where
+  pub valid : IsValidPlan begun.plan
   pub rules_are : length begun.rules ≡ begun.plan.plugins
   pub rooms_are : length begun.rooms ≡ begun.plan.plugins
   pub agree_late : All (λ rule. rule.agrees [] ≡ false) begun.rules
@@ -37,7 +37,7 @@ module _ {S K P : Type 0} (see : Seeing S K P) (begun : RunStart S K) (parts : L
 
   -- some visits led here
   pub record Ran : Type 0 where
-    pub lawful_run : IsLawfulRun begun
+    pub valid_run : IsValidRun begun
     pub stages_are : length parts ≡ begun.plan.plugins + 2
     pub visits : List Visit
     pub part : ℕ → StagePart S K P

@@ -11,13 +11,13 @@ use Rattle.chain_model.specs.PluginRule.{PluginRule}
 use Rattle.chain_model.specs.Apply.{StageList}
 use Rattle.chain_model.specs.StageLists.{end_list}
 use Rattle.chain_model.specs.Stuffed as model
-use Rattle.chain_model.specs.Cut.{IsLawfulFault, IsPureClose}
+use Rattle.chain_model.specs.Cut.{IsValidFault, IsPureClose}
 use Rattle.chain_model.specs.Written.{written}
 use Rattle.chain_core.specs.declared.closed.Closed.{Closed}
 use Rattle.chain_core.specs.declared.core_plan.CorePlan.{CorePlan}
 use Rattle.chain_core.specs.Stages.{stages_of}
 use Rattle.plugin_trait.specs.declared.heard.Heard.{Heard}
-use Rattle.stage_run.specs.Seeing.{Seeing, heard_rule, heard_stands, heard_steady}
+use Rattle.stage_run.specs.Seeing.{Seeing, heard_rule, heard_stands, heard_preallocated}
 use Rattle.stage_run.specs.declared.input_part.InputPart.{InputPart}
 use Rattle.stage_run.specs.declared.input_part.InputPart.TheVariants.{Stream, Nulls, Generated}
 use Rattle.stage_run.specs.declared.output_part.OutputPart.{OutputPart}
@@ -57,7 +57,7 @@ LeftOutput seen _ _ cells cut cause = ⊥
 abbrev pub ClosesRight : List PluginRule → StageList → List ℕ → Closed → Type 0
 ClosesRight rules list users closed =
     IsPureClose rules list users closed.cut closed.cause
-    ⊎ IsLawfulFault rules list users closed.cut closed.cause
+    ⊎ IsValidFault rules list users closed.cut closed.cause
 
 -- how many cells each stage of a run gave, by its number: no stage more than the one before it, the input no more than the
 -- buffer beyond the cut, and the output those before the cut
@@ -83,7 +83,7 @@ pub record RunOf {S K P : Type 0} (see : Seeing S K P)
   pub input_gave : gave 0 ≤ length list.cells
   pub met : AllMetFirst (heard_stands see) (map (heard_rule see) plugins) list gave closed.cut 0 made
   -- only a plugin ran out of memory, and none that made room for as many positions as the buffer has
-  pub memory : (k : ℕ) → closed.cause ≡ NoMemory k → WantsMemory (map (heard_steady see) plugins) plan.buffer k
+  pub memory : (k : ℕ) → closed.cause ≡ NoMemory k → WantsMemory (map (heard_preallocated see) plugins) plan.buffer k
   pub rules : map (heard_rule see) made ≡ map (heard_rule see) plugins
 
 -- where there was no memory for a run, nothing was read, met or written

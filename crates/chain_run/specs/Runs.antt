@@ -7,7 +7,7 @@ use Rattle.chain_core.specs.declared.core_plan.CorePlan.{CorePlan}
 use Rattle.chain_core.specs.declared.stage_word.StageWord.{StageWord}
 use Rattle.chain_core.specs.Machine.{ChainState}
 use Rattle.plugin_trait.specs.declared.heard.Heard.{Heard}
-use Rattle.stage_run.specs.Seeing.{Seeing, heard_rule, heard_steady}
+use Rattle.stage_run.specs.Seeing.{Seeing, heard_rule, heard_preallocated}
 use Rattle.stage_run.specs.declared.input_part.InputPart.{InputPart}
 use Rattle.stage_run.specs.declared.output_part.OutputPart.{OutputPart}
 use Rattle.stage_run.specs.declared.stuffing.Stuffing.{Stuffing}
@@ -39,6 +39,6 @@ began_with see from stuffing plugins to plan = record {
   to = to;
   stuffing = stuffing_of stuffing;
   rules = map (heard_rule see) plugins;
-  rooms = map (heard_steady see) plugins;
+  rooms = map (heard_preallocated see) plugins;
   plan = plan;
 }

@@ -16,13 +16,13 @@ use Rattle.stage_run.specs.PartLists.{PartLists}
 use Rattle.stage_run.specs.PartStands.{PartGives}
 use Rattle.chain_run.specs.Slots.{slot, HoldsFrom}
 use Rattle.chain_run.specs.Runs.{nothing_told, between, RunStart}
-use Rattle.chain_run.specs.Ran.{IsLawfulRun, RanBy}
+use Rattle.chain_run.specs.Ran.{IsValidRun, RanBy}
 
 -- the numbers of a run go together
 pub record NumbersFit {S K : Type 0} (begun : RunStart S K) (core : CoreNumbers)
     (stages slots : ℕ) : Type 0 where
   pub plan_is : core.plan ≡ begun.plan
-  pub run : IsLawfulRun begun
+  pub run : IsValidRun begun
   pub stages_are : stages ≡ begun.plan.plugins + 2
   pub slots_are : slots ≡ begun.plan.buffer
 

@@ -17,7 +17,7 @@ use Rattle.stage_run.specs.PartStands.{PartStands, PartGives, MayWork}
 use Rattle.stage_run.specs.Parts.{IsListOf}
 use Rattle.stage_run.specs.Works.{PartWork}
 use Rattle.chain_run.specs.Runs.{RunStart, nothing_told}
-use Rattle.chain_run.specs.Ran.{IsLawfulRun}
+use Rattle.chain_run.specs.Ran.{IsValidRun}
 use Rattle.chain_run.specs.OneStage.{SoFarUpTo, Doing, MayBe}
 
 -- what is known of a list that may be the input's: nothing, that the chain theorem held of what was seen, or that a part
@@ -36,7 +36,7 @@ module _ {S K P : Type 0} (see : Seeing S K P) (begun : RunStart S K) where
   -- a stage that goes on, after these visits, and its news
   pub record HasNews (visits : List Visit) (k : ℕ) (part : StagePart S K P) (lists : PartLists)
       (known : Premise S K P) (news : News) : Type 0 where
-    pub lawful : IsLawfulRun begun
+    pub valid : IsValidRun begun
     pub run : ChainRun begun.plan visits
     pub is_stage : k ≤ suc begun.plan.plugins
     pub doing : Doing see begun part k lists ((state_after begun.plan visits).stages k).given None
@@ -98,6 +98,6 @@ pub record StageLaws {S K P : Type 0} (see : Seeing S K P) : Type 0 where
       → HasNews see begun visits k old lists known news → WorksOn see begun visits k old new news window window_new work
       → HasWorked see begun visits k old new lists (take work.done window_new) work
   -- the chain theorem holds of each earlier part of a run
-  pub so_far : (begun : RunStart S K) (input : StageList) (visits : List Visit) → IsLawfulRun begun
+  pub so_far : (begun : RunStart S K) (input : StageList) (visits : List Visit) → IsValidRun begun
       → IsListOf see.source begun.from begun.stuffing input → AllKeep begun.plan begun.rules input visits
       → ChainRun begun.plan visits → SoFarUpTo begun.plan begun.rules visits input

@@ -34,11 +34,11 @@ pub fn machine_laws()
 /// held, the run is what `RunOf` says. A law; it runs nothing.
 pub fn any_run<S: Source, K: Sink, P: Plugin>()
     ensures stages { (begun : RunStart S K) (parts : List (StagePart S K P))
-        → let see = seeing S.seen K.seen P.rule P.stands_for P.steady in
+        → let see = seeing S.seen K.seen P.rule P.stands_for P.preallocated in
         Ran see begun parts → AreStages see parts }
     ensures ends { (from made_from : InputPart S) (stuffing : Stuffing) (plugins made : List (Heard P))
         (to made_to : OutputPart K) (plan : CorePlan) (closed : Closed) (parts : List (StagePart S K P))
-        → let see = seeing S.seen K.seen P.rule P.stands_for P.steady in
+        → let see = seeing S.seen K.seen P.rule P.stands_for P.preallocated in
         let begun = began_with see from stuffing plugins to plan in
         HasClosed see begun parts closed → GaveBack see parts made_from made made_to
         → RunOf see from made_from stuffing plugins made to made_to plan closed }

@@ -4,7 +4,7 @@ ghost use Rattle.plugin_trait.specs.HeardStands.{HeardStands};
 ghost use Rattle.plugin_trait.specs.declared.heard.Heard.{Heard};
 ghost use Rattle.stage_run.specs.Seeing.{seeing};
 ghost use Rattle.chain_core.specs.declared.core_plan.CorePlan.{CorePlan};
-ghost use Rattle.chain_core.specs.CoreNumbers.{IsLawfulPlan};
+ghost use Rattle.chain_core.specs.CoreNumbers.{IsValidPlan};
 ghost use Rattle.stage_run.specs.Parts.{IsUnused};
 ghost use Rattle.stage_run.specs.declared.stage_part.StagePart.{StagePart};
 ghost use Rattle.chain_run.specs.Fresh.{AreFresh};
@@ -24,7 +24,7 @@ pub(crate) fn add_plugins<S: Source, K: Sink, P: Plugin>(
     requires room { vec_len parts.old + vec_len plugins.old ≤ vec_capacity parts.old }
     requires fresh { AreFresh (HeardStands P.rule P.stands_for) plugins.old.items }
     ensures made { (made : List (StagePart S K P)) × (parts.new.items ≡ parts.old.items ++ made)
-        × AreMadeOf (seeing S.seen K.seen P.rule P.stands_for P.steady) made plugins.old.items }
+        × AreMadeOf (seeing S.seen K.seen P.rule P.stands_for P.preallocated) made plugins.old.items }
     ensures none_left { plugins.new.items ≡ [] }
     ensures room_left { vec_capacity plugins.new ≡ vec_capacity plugins.old }
     ensures capacity { vec_capacity parts.new ≡ vec_capacity parts.old }
@@ -57,8 +57,8 @@ pub fn lay_stages<S: Source, K: Sink, P: Plugin>(
     requires fresh { AreFresh (HeardStands P.rule P.stands_for) plugins.old.items }
     requires none { rooms.row.items ≡ [] }
     requires room { vec_len plugins.old + 2 ≤ vec_capacity rooms.row }
-    ensures new { (plan : CorePlan) → IsLawfulPlan plan → plan.plugins ≡ vec_len plugins.old
-        → let see = seeing S.seen K.seen P.rule P.stands_for P.steady in
+    ensures new { (plan : CorePlan) → IsValidPlan plan → plan.plugins ≡ vec_len plugins.old
+        → let see = seeing S.seen K.seen P.rule P.stands_for P.preallocated in
         IsNewRow see (began_with see input stuffing plugins.old.items output plan) result.items }
     ensures none_left { plugins.new.items ≡ [] }
     ensures room_left { vec_capacity plugins.new ≡ vec_capacity plugins.old }
@@ -90,12 +90,12 @@ pub(crate) fn take_plugins<S: Source, K: Sink, P: Plugin>(
     plugins: &mut Vec<Heard<P>>,
 )
     requires room { vec_len plugins.old + vec_len parts.old ≤ vec_capacity plugins.old + 1 }
-    requires kinds { ArePluginsAndOutput (seeing S.seen K.seen P.rule P.stands_for P.steady) parts.old.items }
+    requires kinds { ArePluginsAndOutput (seeing S.seen K.seen P.rule P.stands_for P.preallocated) parts.old.items }
     ensures taken { (made : List (Heard P)) × (plugins.new.items ≡ plugins.old.items ++ made)
-        × AreTakenFrom (seeing S.seen K.seen P.rule P.stands_for P.steady) parts.old.items made }
+        × AreTakenFrom (seeing S.seen K.seen P.rule P.stands_for P.preallocated) parts.old.items made }
     ensures one_left { (first : List (StagePart S K P)) × (parts.old.items ≡ first ++ parts.new.items) }
     ensures one { vec_len parts.new ≡ 1 }
-    ensures output { ArePluginsAndOutput (seeing S.seen K.seen P.rule P.stands_for P.steady) parts.new.items }
+    ensures output { ArePluginsAndOutput (seeing S.seen K.seen P.rule P.stands_for P.preallocated) parts.new.items }
 {
     if parts.len() <= 1 {
         return;
@@ -111,10 +111,10 @@ pub fn take_apart<S: Source, K: Sink, P: Plugin>(
     mut parts: Vec<StagePart<S, K, P>>,
     mut plugins: Vec<Heard<P>>,
 ) -> GivenBack<S, K, P>
-    requires stages { AreStages (seeing S.seen K.seen P.rule P.stands_for P.steady) parts.items }
+    requires stages { AreStages (seeing S.seen K.seen P.rule P.stands_for P.preallocated) parts.items }
     requires none { plugins.items ≡ [] }
     requires room { vec_len parts ≤ vec_capacity plugins + 2 }
-    ensures { GaveBack (seeing S.seen K.seen P.rule P.stands_for P.steady) parts.items
+    ensures { GaveBack (seeing S.seen K.seen P.rule P.stands_for P.preallocated) parts.items
         result.input result.plugins.items result.output }
 {
     let input = parts.remove(0).into_input();

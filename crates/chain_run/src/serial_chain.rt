@@ -80,10 +80,10 @@ impl<S: Source, K: Sink, P: Plugin> SerialChain<S, K, P> {
         requires given { (progress_of_core self.old.core stage).given ≤ news.now.taken }
         requires taken { news.now.taken ≤ POSITION_LIMIT }
         requires stands { (d : StagePart S K P) → let part = slice_index_or self.old.parts.items stage d in
-            MayWorkOnSome (PartStands (seeing S.seen K.seen P.rule P.stands_for P.steady) part)
+            MayWorkOnSome (PartStands (seeing S.seen K.seen P.rule P.stands_for P.preallocated) part)
             (progress_of_core self.old.core stage).given news.now.written }
         ensures core { self.new.core ≡ self.old.core }
-        ensures works { WorksOn (seeing S.seen K.seen P.rule P.stands_for P.steady)
+        ensures works { WorksOn (seeing S.seen K.seen P.rule P.stands_for P.preallocated)
             self.old self.new stage news.now result }
     {
         let at = self.core.progress(stage).given;
@@ -95,10 +95,10 @@ impl<S: Source, K: Sink, P: Plugin> SerialChain<S, K, P> {
 
     /// The turn of a stage: it takes of the cells that wait, works, and gives on what it has done. Returns whether anything moved.
     fn turn<G: Gate>(&mut self, stage: usize, most: usize, gate: &G) -> bool
-        requires runs { RunsSomehow (seeing S.seen K.seen P.rule P.stands_for P.steady) self.old }
+        requires runs { RunsSomehow (seeing S.seen K.seen P.rule P.stands_for P.preallocated) self.old }
         requires is_stage { stage ≤ suc self.old.core.plan.plugins }
         requires some { 1 ≤ most }
-        ensures runs { RunsOn (seeing S.seen K.seen P.rule P.stands_for P.steady) self.old self.new }
+        ensures runs { RunsOn (seeing S.seen K.seen P.rule P.stands_for P.preallocated) self.old self.new }
         ensures moved { result ≡ true → LeavesLess self.old self.new }
         ensures rests { result ≡ false → progress_of_core self.new.core ≡ progress_of_core self.old.core }
         ensures idle { result ≡ false
@@ -119,10 +119,10 @@ impl<S: Source, K: Sink, P: Plugin> SerialChain<S, K, P> {
 
     /// The turns of all stages. Returns whether anything moved.
     fn turns<G: Gate>(&mut self, sizes: &[u32], next: &mut usize, gate: &G) -> bool
-        requires runs { RunsSomehow (seeing S.seen K.seen P.rule P.stands_for P.steady) self.old }
+        requires runs { RunsSomehow (seeing S.seen K.seen P.rule P.stands_for P.preallocated) self.old }
         requires sizes { All (λ size. 1 ≤ size) sizes.now }
         requires next { next.old < length sizes.now }
-        ensures runs { RunsOn (seeing S.seen K.seen P.rule P.stands_for P.steady) self.old self.new }
+        ensures runs { RunsOn (seeing S.seen K.seen P.rule P.stands_for P.preallocated) self.old self.new }
         ensures moved { result ≡ true → LeavesLess self.old self.new }
         ensures idle { result ≡ false → (stage : ℕ) → stage ≤ suc self.old.core.plan.plugins
             → IsIdleOrOver self.old.core.plan (progress_of_core self.new.core) stage }
@@ -141,10 +141,10 @@ impl<S: Source, K: Sink, P: Plugin> SerialChain<S, K, P> {
 
     /// Lets the stages take their turns until all of them have ended.
     pub(crate) fn run<G: Gate>(&mut self, sizes: &[u32], gate: &G)
-        requires runs { RunsSomehow (seeing S.seen K.seen P.rule P.stands_for P.steady) self.old }
+        requires runs { RunsSomehow (seeing S.seen K.seen P.rule P.stands_for P.preallocated) self.old }
         requires sizes { All (λ size. 1 ≤ size) sizes.now }
         requires some { 0 < length sizes.now }
-        ensures runs { RunsOn (seeing S.seen K.seen P.rule P.stands_for P.steady) self.old self.new }
+        ensures runs { RunsOn (seeing S.seen K.seen P.rule P.stands_for P.preallocated) self.old self.new }
         ensures over { AllEnded self.new.core.plan (progress_of_core self.new.core) }
     {
         // It runs nothing: the proof cites it.

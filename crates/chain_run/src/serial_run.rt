@@ -2,7 +2,7 @@
 ghost use Rattle.std.specs.Prelude.{◌≡◌, ◌≤◌, ◌<◌, ◌+◌, ℕ, List, [], length, vec_len, vec_capacity, IfOk, OnErr, IsOk};
 ghost use Rattle.std.specs.List.{All};
 ghost use Rattle.chain_core.specs.declared.core_plan.CorePlan.{CorePlan};
-ghost use Rattle.chain_core.specs.CoreNumbers.{IsLawfulPlan, StandsFor};
+ghost use Rattle.chain_core.specs.CoreNumbers.{IsValidPlan, StandsFor};
 ghost use Rattle.chain_core.specs.Machine.{start};
 ghost use Rattle.plugin_trait.specs.HeardStands.{HeardStands};
 ghost use Rattle.plugin_trait.specs.declared.heard.Heard.{Heard};
@@ -37,7 +37,7 @@ struct SerialMemory<S, K, P> {
 impl<S, K, P> SerialMemory<S, K, P> {
     /// Takes the memory for a chain with this plan. After an `AllocError` no memory is held.
     fn new(alloc: Global, plan: &CorePlan) -> Result<SerialMemory<S, K, P>, AllocError>
-        requires { IsLawfulPlan plan.now }
+        requires { IsValidPlan plan.now }
         ensures plan { IfOk result (λ memory. memory.core.plan ≡ plan.now) }
         ensures fresh { IfOk result (λ memory. StandsFor memory.core start) }
         ensures cells { IfOk result (λ memory. vec_len memory.cells ≡ plan.now.buffer) }
@@ -68,14 +68,14 @@ fn lay<S: Source, K: Sink, P: Plugin>(
 ) -> SerialChain<S, K, P>
     requires every { 1 ≤ stuffing.every }
     requires unused { IsUnused input }
-    requires lawful { IsLawfulPlan memory.core.plan }
+    requires valid { IsValidPlan memory.core.plan }
     requires plugins { memory.core.plan.plugins ≡ vec_len plugins.old }
     requires fresh { AreFresh (HeardStands P.rule P.stands_for) plugins.old.items }
     requires numbers { StandsFor memory.core start }
     requires slots { vec_len memory.cells ≡ memory.core.plan.buffer }
     requires none { memory.rooms.row.items ≡ [] }
     requires room { vec_capacity memory.rooms.row ≡ memory.core.plan.plugins + 2 }
-    ensures runs { let see = seeing S.seen K.seen P.rule P.stands_for P.steady in
+    ensures runs { let see = seeing S.seen K.seen P.rule P.stands_for P.preallocated in
         IsRunning see (began_with see input stuffing plugins.old.items output memory.core.plan)
         result.core result.parts.items result.cells.items }
     ensures none_left { plugins.new.items ≡ [] }
@@ -93,14 +93,14 @@ fn run_laid<S: Source, K: Sink, P: Plugin, G: Gate>(
     sizes: &[u32],
     gate: &G,
 ) -> RunEnd<S, K, P>
-    requires runs { RunsSomehow (seeing S.seen K.seen P.rule P.stands_for P.steady) chain }
+    requires runs { RunsSomehow (seeing S.seen K.seen P.rule P.stands_for P.preallocated) chain }
     requires none { plugins.items ≡ [] }
     requires room { length chain.parts.items ≤ vec_capacity plugins + 2 }
     requires sizes { All (λ size. 1 ≤ size) sizes.now }
     requires some_size { 0 < length sizes.now }
     ensures runs { (from : InputPart S) (stuffing : Stuffing) (met_none : List (Heard P)) (to : OutputPart K)
         (plan : CorePlan)
-        → let see = seeing S.seen K.seen P.rule P.stands_for P.steady in
+        → let see = seeing S.seen K.seen P.rule P.stands_for P.preallocated in
         IsRunning see (began_with see from stuffing met_none to plan)
         chain.core chain.parts.items chain.cells.items
         → IfOk result.closed
@@ -142,12 +142,12 @@ pub fn run_serial<S: Source, K: Sink, P: Plugin, G: Gate>(
 ) -> RunEnd<S, K, P>
     requires every { 1 ≤ stages.stuffing.every }
     requires unused { IsUnused stages.input }
-    requires lawful { IsLawfulPlan plan.now }
+    requires valid { IsValidPlan plan.now }
     requires plugins { plan.now.plugins ≡ vec_len stages.plugins }
     requires sizes { All (λ size. 1 ≤ size) sizes.now }
     requires some_size { 0 < length sizes.now }
     requires fresh { AreFresh (HeardStands P.rule P.stands_for) stages.plugins.items }
-    ensures closed { IfOk result.closed (RunOf (seeing S.seen K.seen P.rule P.stands_for P.steady)
+    ensures closed { IfOk result.closed (RunOf (seeing S.seen K.seen P.rule P.stands_for P.preallocated)
         stages.input result.input stages.stuffing stages.plugins.items result.plugins.items
         stages.output result.output plan.now) }
     ensures never_began { OnErr result.closed (NeverBegan stages.input result.input

@@ -13,7 +13,7 @@ fn put_section(text: &mut String, fault: SectionFault) -> Result<(), AllocError>
                 "section cut short: {wanted} bytes needed, {found} there\n"
             )
         }
-        SectionFault::Lawless { rule } => {
+        SectionFault::Invalid { rule } => {
             text.push_str(match rule {
                 SectionRule::Stuffing => "no section: table_id is 0xFF\n",
                 SectionRule::Trailing => "bytes after the end of the section\n",

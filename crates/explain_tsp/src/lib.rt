@@ -1,11 +1,11 @@
 //! What is said of the command line of `tsp`: the tables of options that its words are read by come in, the table by which faults
-//! of words are explained goes out. The layer above uses `tsp_help`; its texts are shown by `explain_rows`.
+//! of words are explained goes out. The layer above uses `tsp_help`; its texts are shown by `test_explain`.
 #![tactic(auto)]
 
 use chain_args::{general_help, input_helps, output_helps};
 use explain_words::{HelpTable, SegmentRow};
-use option_words::SegmentHelp;
-use plug_set::{PluginKind, only_label};
+use plugin_options::SegmentHelp;
+use plugin_set::{PluginKind, only_label};
 use std::alloc::{AllocError, Global};
 
 // A plugin, with the option that every plugin has after its own.

@@ -3,7 +3,7 @@ use crate::fits::{fits, wide};
 use crate::marked::put_word;
 use crate::piece::wrong_piece;
 use crate::shown_option::ShownOption;
-use option_words::{Sign, Takes, split_at_sign};
+use plugin_options::{Sign, Takes, split_at_sign};
 use std::alloc::{AllocError, Global};
 
 /// How such a value is written.

@@ -4,7 +4,7 @@ use crate::help_table::HelpTable;
 use crate::marked::marked_words;
 use crate::said_text::put_said;
 use crate::segment::{segment_of, words_from};
-use option_words::WordsRule;
+use plugin_options::WordsRule;
 use std::alloc::{AllocError, Global};
 
 /// What a refused command line is shown: the words of the segment that breaks a rule, a mark below the one that is wrong, and

@@ -5,7 +5,7 @@ use crate::role::{Role, is_dashed, name_part, role_of, stands, value_part};
 use crate::said::{Fault, Said};
 use crate::segment::{head_of, row_of, words_from};
 use crate::shown_option::ShownOption;
-use option_words::WordsRule;
+use plugin_options::WordsRule;
 use std::alloc::{AllocError, Global};
 
 // What is wrong with the form of a word, before these.

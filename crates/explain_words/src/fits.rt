@@ -1,5 +1,7 @@
 //! Whether a word is what an option or operand takes.
-use option_words::{Takes, read_bytes, read_number_within, read_pair, read_pair_list, read_ranges};
+use plugin_options::{
+    Takes, read_bytes, read_number_within, read_pair, read_pair_list, read_ranges,
+};
 use std::alloc::{AllocError, Global};
 
 /// Whether a word is what an option or operand takes.

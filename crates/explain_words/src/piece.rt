@@ -1,5 +1,5 @@
 //! The piece of a value that is not read as a number.
-use option_words::{Takes, read_number_within, split_at_sign};
+use plugin_options::{Takes, read_number_within, split_at_sign};
 
 // The text, where it is no number of any range.
 fn no_number(text: &str) -> Option<&str> {

@@ -1,6 +1,6 @@
 //! What a word of a segment stands for.
 use crate::shown_option::ShownOption;
-use option_words::split_at_sign;
+use plugin_options::split_at_sign;
 
 /// What a word of a segment stands for, by the words before it.
 #[derive(Clone, Copy)]

@@ -9,7 +9,7 @@ use crate::segment_row::SegmentRow;
 use crate::shown_option::ShownOption;
 use crate::unknown::{put_unknown_name, put_unknown_option};
 use crate::wanted::put_wanted;
-use option_words::read_number_within;
+use plugin_options::read_number_within;
 use std::alloc::{AllocError, Global};
 
 // Puts how an option or operand is written, and what it means.

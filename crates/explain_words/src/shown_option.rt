@@ -1,5 +1,5 @@
 //! An option or operand as it is shown.
-use option_words::{Beside, Need, OptionRow, OptionWord, Takes};
+use plugin_options::{Beside, Need, OptionRow, OptionWord, Takes};
 use std::alloc::{AllocError, Global};
 
 /// What is said of one option or operand of a segment.

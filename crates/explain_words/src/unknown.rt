@@ -5,7 +5,7 @@ use crate::names::{put_homes, put_names, put_near_name, put_near_option, put_opt
 use crate::role::{name_part, operand};
 use crate::segment::{called, head_of, word_or_none};
 use crate::segment_row::SegmentRow;
-use option_words::split_at_sign;
+use plugin_options::split_at_sign;
 use std::alloc::{AllocError, Global};
 
 // How packets come from a network and go to one.

@@ -1,7 +1,7 @@
 //! What a segment wants.
 use crate::role::{Role, role_of, stands};
 use crate::shown_option::ShownOption;
-use option_words::Need;
+use plugin_options::Need;
 use std::alloc::AllocError;
 
 // How many operands stand among words; each word after `--` is one.

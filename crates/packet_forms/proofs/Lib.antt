@@ -1,2 +1,3 @@
 pub mod Strips
 mod Rows
+pub mod Through

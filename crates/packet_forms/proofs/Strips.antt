@@ -125,13 +125,13 @@ strips-more form at from to before count all old new behind fits same gap some f
     sym (drop-drop before from old) ∙ ap (drop before) rest ∙ drop-drop before from all in
     let later : to + count + (from + before - to) ≡ from + before + count = omega arith in
     let ends : from + (before + count) ≡ from + before + count = omega arith in
-    let behind_new : drop (to + count) new ≡ drop (to + count) old = ap (drop (to + count)) moved ∙ drop-paste old to (drop (from + before) old) count room there in (
+    let after_new : drop (to + count) new ≡ drop (to + count) old = ap (drop (to + count)) moved ∙ drop-paste old to (drop (from + before) old) count room there in (
       ap (take (to + count)) moved ∙ take-paste old to (drop (from + before) old) count room there
           ∙ ap (λ (l : List ℕ). l ++ take count (drop (from + before) old)) front
           ∙ ap (λ (l : List ℕ). stripped_from form at (take from all) ++ take count l) begin
           ∙ sym (stripped-more form at from before count all (omega arith) gap some),
       ap (λ (n : ℕ). drop n new) (sym later) ∙ sym (drop-drop (from + before - to) (to + count) new)
-          ∙ ap (drop (from + before - to)) behind_new
+          ∙ ap (drop (from + before - to)) after_new
           ∙ drop-drop (from + before - to) (to + count) old ∙ ap (λ (n : ℕ). drop n old) (later ∙ sym ends)
           ∙ sym (drop-drop (before + count) from old) ∙ ap (drop (before + count)) rest
           ∙ drop-drop (before + count) from all ∙ ap (λ (n : ℕ). drop n all) ends,

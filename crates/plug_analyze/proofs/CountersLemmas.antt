@@ -5,7 +5,7 @@ use Rattle.ts_packet.specs.declared.cell.Cell.{Cell}
 use Rattle.ts_packet.specs.declared.numbers.TheConstants.{NULL_PID}
 use Rattle.ts_packet.specs.Header.{pid_of}
 use Rattle.plugin_notes.specs.declared.continuity_error.ContinuityError.{ContinuityError}
-use Rattle.plugin_notes.specs.ContinuityErrors.{error_behind}
+use Rattle.plugin_notes.specs.ContinuityErrors.{error_after}
 use Rattle.plugin_notes.specs.Counters.{is_watched, last_of}
 use Rattle.plug_analyze.specs.AnalyzeNotes.{is_any, is_fault_at}
 use Rattle.plug_analyze.specs.AnalyzeRule.{all_pids}
@@ -20,7 +20,7 @@ unwatched pid null = ap not null
 -- a null packet has no fault
 pub no_fault : (history : List Cell) (packet : List ℕ) → (pid_of packet == NULL_PID) ≡ true → false ≡ is_fault_at history packet
 no_fault history packet null =
-    sym (ap (λ (b : Bool). is_any (if not b then error_behind (length history) (last_of (pid_of packet) history) packet else [])) null)
+    sym (ap (λ (b : Bool). is_any (if not b then error_after (length history) (last_of (pid_of packet) history) packet else [])) null)
 
 -- whether there is a fault
 any_of : (fault : Option ContinuityError) → is_some fault ≡ is_any (option_to_list fault)

@@ -6,11 +6,11 @@ use Rattle.std.proofs.lemmas.List.Elements.{All-push, filter-append}
 use Rattle.ts_packet.specs.declared.cell.Cell.{Cell}
 use Rattle.ts_packet.specs.Cells.{Live, Dropped, live_packets}
 use Rattle.ts_packet.specs.declared.numbers.TheConstants.{NULL_PID, PID_COUNT}
-use Rattle.bit_rows.proofs.Fields.{field-below}
+use Rattle.ts_bit_rows.proofs.Fields.{field-below}
 use Rattle.ts_packet.specs.Header.{pid_of, counter_of, has_payload_of}
 use Rattle.plugin_notes.specs.declared.continuity_error.ContinuityError.{ContinuityError}
 use Rattle.plugin_notes.specs.Counters.{is_fault, wanted_behind, last_of}
-use Rattle.plugin_notes.specs.ContinuityErrors.{error_behind, error_on}
+use Rattle.plugin_notes.specs.ContinuityErrors.{error_after, error_on}
 use Rattle.plugin_notes.specs.Notes.{notes_after}
 use Rattle.plugin_notes.specs.Tallies.{IsCounted}
 use Rattle.plugin_notes.proofs.Noting.{IsNoteAt}
@@ -65,7 +65,7 @@ module _ (test : Note → Bool) (kind : List ℕ → Bool) (same : (history : Li
 
 -- a fault is on its packet's PID
 fault_pid : (at : ℕ) (last : Option (List ℕ)) (packet : List ℕ) (w : Bool)
-    → map (λ (e : ContinuityError). e.pid) (if w then error_behind at last packet else []) ≡ (if is_any (if w then error_behind at last packet else []) then pid_of packet ∷ [] else [])
+    → map (λ (e : ContinuityError). e.pid) (if w then error_after at last packet else []) ≡ (if is_any (if w then error_after at last packet else []) then pid_of packet ∷ [] else [])
 fault_pid at last packet false = refl
 fault_pid at None packet true = refl
 fault_pid at (Some before) packet true =

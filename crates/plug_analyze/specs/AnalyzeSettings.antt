@@ -2,5 +2,5 @@
 use Rattle.plug_analyze.specs.declared.analyze_conf.AnalyzeConf.{AnalyzeConf}
 
 -- it has no settings
-abbrev pub IsLawfulAnalyze : AnalyzeConf → Type 0
-IsLawfulAnalyze c = Unit {0}
+abbrev pub IsValidAnalyze : AnalyzeConf → Type 0
+IsValidAnalyze c = Unit {0}

@@ -23,8 +23,8 @@ abbrev pub MeetsHistory : Analyze → List Cell → ℕ → Type 0
 MeetsHistory s history mark = (has_failed s ≡ false → StandsFor s history mark) × (mark ≤ length history)
 
 -- it names no number of positions at which it never runs out of memory, since its tables grow
-abbrev pub steady_of : Analyze → Option ℕ
-steady_of s = None
+abbrev pub preallocated_of : Analyze → Option ℕ
+preallocated_of s = None
 
 -- whether there is room for one more note
 abbrev pub HasNoteRoom : Analyze → Type 0

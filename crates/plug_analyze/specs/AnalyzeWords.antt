@@ -1,8 +1,8 @@
 -- The options of `analyze`. This project's own rule.
 use Rattle.std.specs.Prelude.{List, [], true}
 use Rattle.plug_analyze.specs.declared.analyze_conf.AnalyzeConf.{AnalyzeConf}
-use Rattle.option_words.specs.Options.{OptionRow}
-use Rattle.option_words.specs.OptionTable.{OptionTable}
+use Rattle.plugin_options.specs.Options.{OptionRow}
+use Rattle.plugin_options.specs.OptionTable.{OptionTable}
 
 -- the options
 abbrev pub analyze_rows : List OptionRow

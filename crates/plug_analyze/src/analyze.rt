@@ -33,16 +33,16 @@ impl Analyze {
     ghost use Rattle.ts_packet.specs.Header.{pid_of};
     ghost use Rattle.chain_model.specs.declared.positions.TheConstants.{POSITION_LIMIT};
     ghost use Rattle.plug_analyze.specs.AnalyzeRule.{analyze_rule};
-    ghost use Rattle.plug_analyze.specs.AnalyzeSettings.{IsLawfulAnalyze};
+    ghost use Rattle.plug_analyze.specs.AnalyzeSettings.{IsValidAnalyze};
     ghost use Rattle.plug_analyze.specs.AnalyzeStands.{HasNoteRoom, StandsFor, StandsForSome, has_failed, may_come, room_for_changes, room_for_notes};
 
     /// A new plugin, which has processed no cell. It allocates its tables, and room for notes on as many packets as
     /// the buffer holds; the tables in force grow with the stream.
     pub fn new(alloc: Global, _conf: &AnalyzeConf, buffer: usize) -> Result<Analyze, AllocError>
-        requires { IsLawfulAnalyze _conf.now }
+        requires { IsValidAnalyze _conf.now }
         ensures rule { IfOk result (λ plugin. ⟦<Analyze as Plugin>⟧.rule plugin ≡ analyze_rule) }
         ensures fresh { IfOk result (λ plugin. ⟦<Analyze as Plugin>⟧.stands_for plugin [] 0) }
-        ensures steady { IfOk result (λ plugin. ⟦<Analyze as Plugin>⟧.steady plugin ≡ None) }
+        ensures preallocated { IfOk result (λ plugin. ⟦<Analyze as Plugin>⟧.preallocated plugin ≡ None) }
         ensures whole { IfOk result (λ plugin. has_failed plugin ≡ false) }
         ensures reserved_notes { IfOk result (λ plugin. room_for_notes plugin ≡ buffer) }
         ensures reserved_changes { IfOk result (λ plugin. room_for_changes plugin ≡ buffer) }
@@ -110,13 +110,13 @@ impl Plugin for Analyze {
     ghost use Rattle.plugin_trait.specs.Marks.{AllowsMark, GivesLines};
     ghost use Rattle.plugin_trait.specs.Steps.{HasRoom, Meets, MeetsCells, Tells, left_of};
     ghost use Rattle.plug_analyze.specs.AnalyzeRule.{analyze_rule};
-    ghost use Rattle.plug_analyze.specs.AnalyzeStands.{HasNoteRoom, MeetsHistory, StandsFor, has_failed, may_come, room_for_changes, room_for_notes, steady_of};
+    ghost use Rattle.plug_analyze.specs.AnalyzeStands.{HasNoteRoom, MeetsHistory, StandsFor, has_failed, may_come, room_for_changes, room_for_notes, preallocated_of};
 
     ghost rule = { λ s. analyze_rule };
 
     ghost stands_for = { λ s history mark. MeetsHistory s history mark };
 
-    ghost steady = { λ s. steady_of s };
+    ghost preallocated = { λ s. preallocated_of s };
 
     /// The clauses are those of `Plugin`, whose ghost members have no names here, and four more: a packet on a PID on which no
     /// table in force may come wants no memory but the room for its note, a step that runs out of memory leaves the plugin
@@ -129,8 +129,8 @@ impl Plugin for Analyze {
         ensures tells { Tells analyze_rule (MeetsHistory self.old) at (Live packet.old _labels.old) result
             (left_of result packet.new _labels.new) }
         ensures meets { Meets (MeetsHistory self.old) (MeetsHistory self.new) at (Live packet.old _labels.old) result }
-        ensures same_steady { steady_of self.new ≡ steady_of self.old }
-        ensures room { HasRoom (steady_of self.old) (MeetsHistory self.old) at → result ≢ Outcome.NoMemory }
+        ensures same_preallocated { preallocated_of self.new ≡ preallocated_of self.old }
+        ensures room { HasRoom (preallocated_of self.old) (MeetsHistory self.old) at → result ≢ Outcome.NoMemory }
         ensures quiet { (history : List GivenCell) (mark : ℕ) → has_failed self.old ≡ false → StandsFor self.old history mark
             → may_come (pid_of packet.old) history ≡ false → HasNoteRoom self.old → result ≢ Outcome.NoMemory }
         ensures spent { result ≡ Outcome.NoMemory → has_failed self.new ≡ true }
@@ -158,8 +158,8 @@ impl Plugin for Analyze {
         requires { AllowsMark (MeetsHistory self.old) written }
         ensures gives { GivesLines analyze_rule (MeetsHistory self.old) (MeetsHistory self.new) written
             _lines.old.items _lines.new.items result }
-        ensures same_steady { steady_of self.new ≡ steady_of self.old }
-        ensures room { IsSome (steady_of self.old) → IsOk result }
+        ensures same_preallocated { preallocated_of self.new ≡ preallocated_of self.old }
+        ensures room { IsSome (preallocated_of self.old) → IsOk result }
         ensures whole { has_failed self.new ≡ has_failed self.old }
         ensures reserved_notes { room_for_notes self.new ≡ room_for_notes self.old }
         ensures reserved_changes { room_for_changes self.new ≡ room_for_changes self.old }

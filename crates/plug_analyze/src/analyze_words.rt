@@ -1,8 +1,8 @@
 //! The options of `analyze`: there are none.
 
 use crate::analyze_conf::AnalyzeConf;
-use option_words::{OptionRow, ParsedOptions, Refusal};
 use plugin_entry::{PluginHelp, PluginSettings};
+use plugin_options::{OptionRow, ParsedOptions, Refusal};
 use std::alloc::Global;
 
 impl PluginSettings for AnalyzeConf {

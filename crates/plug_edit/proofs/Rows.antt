@@ -3,7 +3,7 @@ use Rattle.std.proofs.Common.{◌≡◌, ℕ, [], ◌∷◌, None, Some, true, f
 use Rattle.ts_bits.specs.TaggedBody.{TaggedBody}
 use Rattle.ts_fields.specs.Bits.{bits, number_of}
 use Rattle.ts_fields.specs.Reading.{read_number, read_bytes, read_rest, read_field, read_rows}
-use Rattle.ts_fields.specs.Bodies.{read_page, read_behind}
+use Rattle.ts_fields.specs.Bodies.{read_page, read_after}
 use Rattle.ts_descr.specs.Descriptors.{read_typed}
 use Rattle.ts_table_rows.specs.TableValues.{TableHolding}
 use Rattle.plug_psi.proofs.RowTables.{item_of, table_of}
@@ -60,12 +60,12 @@ ca_301 = record { tag = 0x09; body = 0x0B ∷ 0x00 ∷ 0xE1 ∷ 0x2D ∷ [] }
 -- a descriptor is left out by its system, or by its PID
 cat-by-system : edited_cat (record { add_ca = []; remove_casid = (6144, 6144) ∷ []; remove_pid = []; new_version = None; increment_version = false }) (table_of 0x01 0xFFFF [] (ca_300 ∷ ca_301 ∷ []) [])
     ≡ Some (table_of 0x01 0xFFFF [] (ca_301 ∷ []) [])
-unfolding with_ca bits number_of read_number read_bytes read_rest read_field read_rows read_page read_behind read_typed
+unfolding with_ca bits number_of read_number read_bytes read_rest read_field read_rows read_page read_after read_typed
 cat-by-system = refl
 
 cat-by-pid : edited_cat (record { add_ca = []; remove_casid = []; remove_pid = (301, 400) ∷ []; new_version = Some 3; increment_version = false }) (table_of 0x01 0xFFFF [] (ca_300 ∷ ca_301 ∷ []) [])
     ≡ Some (of_version 3 (table_of 0x01 0xFFFF [] (ca_300 ∷ []) []))
-unfolding with_ca bits number_of read_number read_bytes read_rest read_field read_rows read_page read_behind read_typed
+unfolding with_ca bits number_of read_number read_bytes read_rest read_field read_rows read_page read_after read_typed
 cat-by-pid = refl
 
 -- an SDT loses service 2

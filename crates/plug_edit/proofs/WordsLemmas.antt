@@ -1,13 +1,13 @@
--- From the ranges in which the readers of words find numbers to lawful settings.
+-- From the ranges in which the readers of words find numbers to valid settings.
 use Rattle.std.proofs.Common.{◌≡◌, ◌∙◌, ◌≤◌, ◌<◌, ◌+◌, ℕ, true, false, not, cond, ap, ap₂, List, Option, None, Some, Result, Ok, Err, arith}
 use Rattle.std.specs.Prelude.{IfOk, IfSome}
 use Rattle.std.specs.List.{All}
 use Rattle.std.specs.Option.{ForSome}
 use Rattle.std.proofs.lemmas.List.Elements.{All-weaker}
 use Rattle.clap.specs.Walk.{Row}
-use Rattle.option_words.specs.Options.{are_well_formed}
-use Rattle.option_words.specs.OptionTable.{OptionTable, first_broken, tests_of_parsed}
-use Rattle.option_words.specs.declared.words_rule.WordsRule.TheVariants.{Conflict, Missing, Value}
+use Rattle.plugin_options.specs.Options.{are_well_formed}
+use Rattle.plugin_options.specs.OptionTable.{OptionTable, first_broken, tests_of_parsed}
+use Rattle.plugin_options.specs.declared.words_rule.WordsRule.TheVariants.{Conflict, Missing, Value}
 
 -- a number up to a most is below the next one
 pub below_next : {E : Type 0} (r : Result (Option ℕ) E) (least most : ℕ) → IfOk r (λ n. IfSome n (λ k. (least ≤ k) × (k ≤ most))) → IfOk r (λ n. ForSome n (λ k. k < most + 1))

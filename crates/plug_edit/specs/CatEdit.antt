@@ -9,7 +9,7 @@ use Rattle.ts_pages.specs.MpegPages.{ca}
 use Rattle.ts_descr.specs.Descriptors.{Typed, fields_alone, read_typed}
 use Rattle.ts_descr_mpeg.specs.MpegDescrs.{mpeg_pages}
 use Rattle.ts_table_rows.specs.TableValues.{TableHolding}
-use Rattle.plug_conf.specs.NumberSet.{has_number}
+use Rattle.plugin_options.specs.NumberSet.{has_number}
 use Rattle.plug_psi.specs.NumbersHeld.{number_at}
 use Rattle.plug_edit.specs.Versions.{edited_version}
 use Rattle.plug_psi.specs.WrittenDescriptor.{written}

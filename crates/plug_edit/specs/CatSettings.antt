@@ -4,7 +4,7 @@
 use Rattle.std.specs.Prelude.{ℕ, ◌<◌, IsTrue}
 use Rattle.std.specs.List.{All}
 use Rattle.ts_packet.specs.declared.numbers.TheConstants.{PID_COUNT}
-use Rattle.plug_conf.specs.NumberSet.{AllBelow}
+use Rattle.plugin_options.specs.NumberSet.{AllBelow}
 use Rattle.plug_edit.specs.Versions.{IsVersion, versions_agree}
 use Rattle.plug_edit.specs.declared.cat_conf.EditCatConf.{EditCatConf}
 
@@ -14,7 +14,7 @@ pub record IsAddedCa (pair : ℕ × ℕ) : Type 0 where
   pub pid : pair.1 < PID_COUNT
 
 -- each number is in its range, and no two options exclude each other
-pub record IsLawfulCat (c : EditCatConf) : Type 0 where
+pub record IsValidCat (c : EditCatConf) : Type 0 where
   pub added : All IsAddedCa c.add_ca
   pub systems : AllBelow 65536 c.remove_casid
   pub pids : AllBelow PID_COUNT c.remove_pid

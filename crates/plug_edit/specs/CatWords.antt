@@ -2,10 +2,10 @@
 -- This project's own rule.
 use Rattle.std.specs.Prelude.{◌∷◌, List, codes, true}
 use Rattle.clap.specs.Walk.{Row}
-use Rattle.plug_conf.specs.declared.limits.TheConstants.{LAST_PID}
-use Rattle.option_words.specs.Forms.{ranges}
-use Rattle.option_words.specs.Options.{OptionRow, has_flag, value}
-use Rattle.option_words.specs.OptionTable.{OptionTable}
+use Rattle.plugin_options.specs.declared.limits.TheConstants.{LAST_PID}
+use Rattle.plugin_options.specs.Forms.{ranges}
+use Rattle.plugin_options.specs.Options.{OptionRow, has_flag, value}
+use Rattle.plugin_options.specs.OptionTable.{OptionTable}
 use Rattle.plug_edit.specs.EditWords.{number_found, pairs_found, pairs_row, ranges_found, version_rows}
 use Rattle.plug_edit.specs.Versions.{versions_agree}
 use Rattle.plug_edit.specs.declared.limits.TheConstants.{LAST_ID, LAST_VERSION}

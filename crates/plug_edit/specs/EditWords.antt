@@ -2,11 +2,11 @@
 -- This project's own rule.
 use Rattle.std.specs.Prelude.{ℕ, List, [], ◌∷◌, Option, codes, unwrap_or}
 use Rattle.clap.specs.Walk.{Row}
-use Rattle.option_words.specs.Forms.{number, pairs}
-use Rattle.option_words.specs.Number.{number_within}
-use Rattle.option_words.specs.Options.{OptionRow, flag, read_value, value}
-use Rattle.option_words.specs.Pairs.{pairs_of}
-use Rattle.option_words.specs.Ranges.{ranges_of}
+use Rattle.plugin_options.specs.Forms.{number, pairs}
+use Rattle.plugin_options.specs.Number.{number_within}
+use Rattle.plugin_options.specs.Options.{OptionRow, flag, read_value, value}
+use Rattle.plugin_options.specs.Pairs.{pairs_of}
+use Rattle.plugin_options.specs.Ranges.{ranges_of}
 use Rattle.plug_edit.specs.declared.limits.TheConstants.{LAST_VERSION}
 
 -- the byte `/`, which separates two numbers

@@ -10,7 +10,7 @@ use Rattle.ts_pages.specs.DvbPages.{network_name}
 use Rattle.ts_descr.specs.Descriptors.{Typed, fields_alone, read_typed}
 use Rattle.ts_descr_dvb.specs.DvbDescrs.{dvb_pages}
 use Rattle.ts_table_rows.specs.TableValues.{ItemHolding, TableHolding}
-use Rattle.plug_conf.specs.NumberSet.{has_number}
+use Rattle.plugin_options.specs.NumberSet.{has_number}
 use Rattle.plug_edit.specs.Changing.{changed_first}
 use Rattle.plug_psi.specs.NumbersHeld.{number_at}
 use Rattle.plug_edit.specs.Versions.{edited_version}

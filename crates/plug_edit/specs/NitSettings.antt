@@ -3,12 +3,12 @@
 -- the two options of the version is given.
 use Rattle.std.specs.Prelude.{◌<◌, IsTrue}
 use Rattle.std.specs.Option.{ForSome}
-use Rattle.plug_conf.specs.NumberSet.{AllBelow}
+use Rattle.plugin_options.specs.NumberSet.{AllBelow}
 use Rattle.plug_edit.specs.Versions.{IsVersion, versions_agree}
 use Rattle.plug_edit.specs.declared.nit_conf.EditNitConf.{EditNitConf}
 
 -- each number is in its range, and no two options exclude each other
-pub record IsLawfulNit (c : EditNitConf) : Type 0 where
+pub record IsValidNit (c : EditNitConf) : Type 0 where
   pub removed : AllBelow 65536 c.remove_ts
   pub network : ForSome c.network_id (λ id. id < 65536)
   pub version : IsVersion c.new_version

@@ -2,9 +2,9 @@
 -- This project's own rule.
 use Rattle.std.specs.Prelude.{◌∷◌, List, codes, true}
 use Rattle.clap.specs.Walk.{Row}
-use Rattle.option_words.specs.Forms.{ranges, text}
-use Rattle.option_words.specs.Options.{OptionRow, has_flag, value, value_of}
-use Rattle.option_words.specs.OptionTable.{OptionTable}
+use Rattle.plugin_options.specs.Forms.{ranges, text}
+use Rattle.plugin_options.specs.Options.{OptionRow, has_flag, value, value_of}
+use Rattle.plugin_options.specs.OptionTable.{OptionTable}
 use Rattle.plug_edit.specs.EditWords.{number_found, number_row, ranges_found, version_rows}
 use Rattle.plug_edit.specs.Versions.{versions_agree}
 use Rattle.plug_edit.specs.declared.limits.TheConstants.{LAST_ID, LAST_VERSION}

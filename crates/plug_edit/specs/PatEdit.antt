@@ -6,7 +6,7 @@ use Rattle.std.specs.Prelude.{ℕ, ◌++◌, ◌∷◌, [], Bool, List, Option, 
 use Rattle.ts_table_rows.specs.TableValues.{ItemHolding, TableHolding}
 use Rattle.ts_psi.specs.PatTables.{entry_item, is_network}
 use Rattle.ts_psi.specs.declared.pat.PatService.{PatService}
-use Rattle.plug_conf.specs.NumberSet.{has_number}
+use Rattle.plugin_options.specs.NumberSet.{has_number}
 use Rattle.plug_edit.specs.Changing.{changed_first}
 use Rattle.plug_psi.specs.NumbersHeld.{number_at}
 use Rattle.plug_edit.specs.Versions.{edited_version}

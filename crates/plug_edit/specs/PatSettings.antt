@@ -5,7 +5,7 @@ use Rattle.std.specs.Prelude.{ℕ, ◌<◌, ◌≤◌, IsTrue}
 use Rattle.std.specs.Option.{ForSome}
 use Rattle.std.specs.List.{All}
 use Rattle.ts_packet.specs.declared.numbers.TheConstants.{PID_COUNT}
-use Rattle.plug_conf.specs.NumberSet.{AllBelow}
+use Rattle.plugin_options.specs.NumberSet.{AllBelow}
 use Rattle.plug_edit.specs.Versions.{IsVersion, versions_agree}
 use Rattle.plug_edit.specs.declared.pat_conf.EditPatConf.{EditPatConf}
 
@@ -16,7 +16,7 @@ pub record IsAddedService (pair : ℕ × ℕ) : Type 0 where
   pub pid : pair.1 < PID_COUNT
 
 -- each number is in its range, and no two options exclude each other
-pub record IsLawfulPat (c : EditPatConf) : Type 0 where
+pub record IsValidPat (c : EditPatConf) : Type 0 where
   pub added : All IsAddedService c.add_service
   pub removed : AllBelow 65536 c.remove_service
   pub services : All (λ pair. 1 ≤ pair.0) c.remove_service

@@ -2,11 +2,11 @@
 -- This project's own rule.
 use Rattle.std.specs.Prelude.{[], ◌∷◌, List, codes, true, unwrap_or}
 use Rattle.clap.specs.Walk.{Row}
-use Rattle.plug_conf.specs.declared.limits.TheConstants.{LAST_PID}
-use Rattle.option_words.specs.Forms.{ranges_from}
-use Rattle.option_words.specs.Options.{OptionRow, has_flag, read_value, value}
-use Rattle.option_words.specs.OptionTable.{OptionTable}
-use Rattle.option_words.specs.Ranges.{ranges_within}
+use Rattle.plugin_options.specs.declared.limits.TheConstants.{LAST_PID}
+use Rattle.plugin_options.specs.Forms.{ranges_from}
+use Rattle.plugin_options.specs.Options.{OptionRow, has_flag, read_value, value}
+use Rattle.plugin_options.specs.OptionTable.{OptionTable}
+use Rattle.plugin_options.specs.Ranges.{ranges_within}
 use Rattle.plug_edit.specs.EditWords.{number_found, number_row, pairs_found, pairs_row, version_rows}
 use Rattle.plug_edit.specs.Versions.{versions_agree}
 use Rattle.plug_edit.specs.declared.limits.TheConstants.{LAST_ID, LAST_VERSION}

@@ -5,7 +5,7 @@ use Rattle.std.specs.Prelude.{ℕ, Bool, List, [], ◌∷◌, filter, fold, map,
 use Rattle.ts_fields.specs.Layout.{number}
 use Rattle.ts_table_rows.specs.TableValues.{ItemHolding, TableHolding}
 use Rattle.ts_psi.specs.declared.pmt.Component.{Component}
-use Rattle.plug_conf.specs.NumberSet.{has_number}
+use Rattle.plugin_options.specs.NumberSet.{has_number}
 use Rattle.plug_edit.specs.Changing.{changed_first}
 pub use Rattle.plug_psi.specs.NumbersHeld.{component_pid}
 use Rattle.plug_psi.specs.NumbersHeld.{number_at}

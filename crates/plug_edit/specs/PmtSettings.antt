@@ -5,7 +5,7 @@ use Rattle.std.specs.Prelude.{ℕ, ◌<◌, IsTrue}
 use Rattle.std.specs.Option.{ForSome}
 use Rattle.std.specs.List.{All}
 use Rattle.ts_packet.specs.declared.numbers.TheConstants.{PID_COUNT}
-use Rattle.plug_conf.specs.NumberSet.{AllBelow}
+use Rattle.plugin_options.specs.NumberSet.{AllBelow}
 use Rattle.plug_edit.specs.Versions.{IsVersion, versions_agree}
 use Rattle.plug_edit.specs.declared.pmt_conf.EditPmtConf.{EditPmtConf}
 
@@ -20,7 +20,7 @@ pub record IsMove (pair : ℕ × ℕ) : Type 0 where
   pub new : pair.1 < PID_COUNT
 
 -- each number is in its range, and no two options exclude each other
-pub record IsLawfulPmt (c : EditPmtConf) : Type 0 where
+pub record IsValidPmt (c : EditPmtConf) : Type 0 where
   pub table : c.pmt_pid < PID_COUNT
   pub added : All IsAddedComponent c.add_pid
   pub removed : AllBelow PID_COUNT c.remove_pid

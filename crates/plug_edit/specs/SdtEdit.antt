@@ -6,7 +6,7 @@ use Rattle.ts_fields.specs.Layout.{number}
 use Rattle.ts_table_rows.specs.RowWords.{flag}
 use Rattle.ts_table_rows.specs.TableValues.{ItemHolding, TableHolding}
 use Rattle.ts_si.specs.declared.services.SdtService.{SdtService}
-use Rattle.plug_conf.specs.NumberSet.{has_number}
+use Rattle.plugin_options.specs.NumberSet.{has_number}
 use Rattle.plug_edit.specs.Changing.{changed_first}
 use Rattle.plug_psi.specs.NumbersHeld.{number_at}
 use Rattle.plug_edit.specs.ServiceChange.{changed_service}

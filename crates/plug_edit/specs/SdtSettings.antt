@@ -4,7 +4,7 @@
 -- is given.
 use Rattle.std.specs.Prelude.{◌<◌, ◌&&◌, ◌||◌, Bool, IsTrue, is_some, not}
 use Rattle.std.specs.Option.{ForSome}
-use Rattle.plug_conf.specs.NumberSet.{AllBelow}
+use Rattle.plugin_options.specs.NumberSet.{AllBelow}
 use Rattle.plug_edit.specs.ServiceChange.{changes_descriptor}
 use Rattle.plug_edit.specs.Versions.{IsVersion, versions_agree}
 use Rattle.plug_edit.specs.declared.sdt_conf.EditSdtConf.{EditSdtConf}
@@ -19,7 +19,7 @@ sdt_together c =
     not (changes_service c && not (is_some c.service)) && versions_agree c.new_version c.increment_version
 
 -- each number is in its range, and no two options exclude each other
-pub record IsLawfulSdt (c : EditSdtConf) : Type 0 where
+pub record IsValidSdt (c : EditSdtConf) : Type 0 where
   pub removed : AllBelow 65536 c.remove_service
   pub service : ForSome c.service (λ id. id < 65536)
   pub type : ForSome c.service_type (λ type. type < 256)

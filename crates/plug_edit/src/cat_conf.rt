@@ -2,7 +2,7 @@
 
 ghost use Rattle.std.specs.Prelude.{◌≡◌, IfOk};
 
-use plug_conf::{NumberSet, PairList};
+use plugin_options::{NumberSet, PairList};
 use std::alloc::{AllocError, Global};
 
 /// Settings of `cat`, which edits the CAT on PID 1.

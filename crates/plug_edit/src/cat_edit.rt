@@ -7,7 +7,7 @@ ghost use Rattle.ts_descr.specs.Descriptors.{read_typed};
 ghost use Rattle.ts_descr_mpeg.specs.MpegDescrs.{mpeg_pages};
 ghost use Rattle.ts_psi.specs.CatTables.{cat_held};
 ghost use Rattle.plug_edit.specs.CatEdit.{added_ca, edited_cat, is_listed, with_ca, without_ca};
-ghost use Rattle.plug_edit.specs.CatSettings.{IsAddedCa, IsLawfulCat};
+ghost use Rattle.plug_edit.specs.CatSettings.{IsAddedCa, IsValidCat};
 
 use crate::cat_conf::EditCatConf;
 use crate::versions::version_after;
@@ -20,7 +20,7 @@ use ts_psi::Cat;
 /// A CAT after the edit of `cat`: CA descriptors are removed, others are added after the rest, and the version is set.
 /// `None` if a descriptor would exceed 255 bytes. After `AllocError` nothing of the CAT is left.
 pub fn edit_cat(alloc: Global, conf: &EditCatConf, cat: Cat) -> Result<Option<Cat>, AllocError>
-    requires { IsLawfulCat conf.now }
+    requires { IsValidCat conf.now }
     ensures { IfOk result (λ edited. option_map cat_held edited ≡ edited_cat conf.now (cat_held cat)) }
 {
     let Cat {

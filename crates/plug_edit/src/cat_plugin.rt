@@ -3,7 +3,7 @@
 ghost use Rattle.std.specs.Prelude.{◌≡◌, [], None, IfOk};
 ghost use Rattle.plug_edit.specs.Changes.{change_cat};
 ghost use Rattle.plug_edit.specs.EditRule.{edit_rule};
-ghost use Rattle.plug_edit.specs.CatSettings.{IsLawfulCat};
+ghost use Rattle.plug_edit.specs.CatSettings.{IsValidCat};
 
 use crate::cat_conf::EditCatConf;
 use crate::cat_edit::edit_cat;
@@ -17,7 +17,7 @@ use ts_psi::Cat;
 #[derive(Drop)]
 pub struct CatEdit {
     conf: EditCatConf,
-    ghost lawful: { IsLawfulCat conf },
+    ghost valid: { IsValidCat conf },
 }
 
 impl EditsTable for CatEdit {
@@ -42,10 +42,10 @@ pub fn new_edit_cat(
     conf: &EditCatConf,
     _buffer: usize,
 ) -> Result<EditCat, AllocError>
-    requires { IsLawfulCat conf.now }
+    requires { IsValidCat conf.now }
     ensures rule { IfOk result (λ plugin. ⟦<EditCat as Plugin>⟧.rule plugin ≡ edit_rule 1 (change_cat conf.now)) }
     ensures fresh { IfOk result (λ plugin. ⟦<EditCat as Plugin>⟧.stands_for plugin [] 0) }
-    ensures steady { IfOk result (λ plugin. ⟦<EditCat as Plugin>⟧.steady plugin ≡ None) }
+    ensures preallocated { IfOk result (λ plugin. ⟦<EditCat as Plugin>⟧.preallocated plugin ≡ None) }
 {
     let edit = Current {
         edit: CatEdit {

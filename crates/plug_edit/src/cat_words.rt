@@ -2,12 +2,12 @@
 
 ghost use Rattle.std.specs.Prelude.{◌≡◌, IfOk, MatchResult, codes, false, true};
 ghost use Rattle.std.specs.List.{All};
-ghost use Rattle.option_words.specs.Forms.{pairs};
-ghost use Rattle.option_words.specs.Options.{is_formed};
-ghost use Rattle.option_words.specs.Refusal.{IsRefusedBy, ReadsParsed};
-ghost use Rattle.option_words.specs.declared.words_rule.WordsRule.TheVariants.{Value};
-ghost use Rattle.plug_conf.specs.declared.limits.TheConstants.{LAST_PID};
-ghost use Rattle.plug_edit.specs.CatSettings.{IsAddedCa, IsLawfulCat};
+ghost use Rattle.plugin_options.specs.Forms.{pairs};
+ghost use Rattle.plugin_options.specs.Options.{is_formed};
+ghost use Rattle.plugin_options.specs.Refusal.{IsRefusedBy, ReadsParsed};
+ghost use Rattle.plugin_options.specs.declared.words_rule.WordsRule.TheVariants.{Value};
+ghost use Rattle.plugin_options.specs.declared.limits.TheConstants.{LAST_PID};
+ghost use Rattle.plug_edit.specs.CatSettings.{IsAddedCa, IsValidCat};
 ghost use Rattle.plug_edit.specs.CatWords.{cat};
 ghost use Rattle.plug_edit.specs.EditWords.{pairs_found, slash};
 ghost use Rattle.plug_edit.specs.declared.limits.TheConstants.{LAST_ID};
@@ -16,11 +16,11 @@ use crate::cat_conf::EditCatConf;
 use crate::edit_words::number_up_to;
 use crate::limits::{LAST_ID, LAST_VERSION};
 use crate::versions::versions_agree;
-use option_words::{
-    Beside, Need, OptionRow, OptionText, OptionWord, ParsedOptions, Refusal, Sign, Takes, WordsRule,
-};
-use plug_conf::{LAST_PID, PairList};
 use plugin_entry::{PluginHelp, PluginSettings};
+use plugin_options::{
+    Beside, LAST_PID, Need, OptionRow, OptionText, OptionWord, PairList, ParsedOptions, Refusal,
+    Sign, Takes, WordsRule,
+};
 use std::alloc::Global;
 
 // The options of `cat`.
@@ -81,7 +81,7 @@ fn added_systems(alloc: Global, found: &ParsedOptions) -> Result<PairList, Refus
         (λ list. (is_formed (pairs slash (0, LAST_ID) (0, LAST_PID)) (codes "add-ca") found.now ≡ true)
         × (list ≡ pairs_found (codes "add-ca") (0, LAST_ID) (0, LAST_PID) found.now))
         (IsRefusedBy Value (is_formed (pairs slash (0, LAST_ID) (0, LAST_PID)) (codes "add-ca") found.now ≡ false)) }
-    ensures lawful { IfOk result (All IsAddedCa) }
+    ensures valid { IfOk result (All IsAddedCa) }
 {
     found.pair_list(alloc, "add-ca", '/', (0, LAST_ID), (0, LAST_PID))
 }
@@ -89,7 +89,7 @@ fn added_systems(alloc: Global, found: &ParsedOptions) -> Result<PairList, Refus
 // Reads the settings of `cat` from what its command found in the words.
 fn cat_settings(alloc: Global, found: &ParsedOptions) -> Result<EditCatConf, Refusal>
     ensures reads { ReadsParsed cat found.now result }
-    ensures lawful { IfOk result IsLawfulCat }
+    ensures valid { IfOk result IsValidCat }
 {
     let new_version = number_up_to(found, "new-version", LAST_VERSION)?;
     let add_ca = added_systems(alloc, found)?;

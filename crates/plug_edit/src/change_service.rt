@@ -9,7 +9,7 @@ ghost use Rattle.ts_descr_dvb.specs.DvbDescrs.{dvb_pages};
 ghost use Rattle.ts_descr_dvb.specs.DvbFields.{service_fields};
 ghost use Rattle.ts_si.specs.SiTables.{service_item};
 ghost use Rattle.plug_edit.specs.ServiceChange;
-ghost use Rattle.plug_edit.specs.SdtSettings.{IsLawfulSdt};
+ghost use Rattle.plug_edit.specs.SdtSettings.{IsValidSdt};
 
 use crate::put_first::put_first;
 use crate::sdt_conf::EditSdtConf;
@@ -26,7 +26,7 @@ pub fn change_service(
     conf: &EditSdtConf,
     service: SdtService,
 ) -> Result<Option<SdtService>, AllocError>
-    requires { IsLawfulSdt conf.now }
+    requires { IsValidSdt conf.now }
     ensures { IfOk result (λ changed. option_map service_item changed
         ≡ ServiceChange.changed_service conf.now (service_item service)) }
 {
@@ -81,7 +81,7 @@ fn changed_descriptors(
     conf: &EditSdtConf,
     descriptors: DescriptorList,
 ) -> Result<Option<DescriptorList>, AllocError>
-    requires { IsLawfulSdt conf.now }
+    requires { IsValidSdt conf.now }
     ensures { IfOk result (λ all. all ≡ ServiceChange.changed_descriptors conf.now descriptors) }
 {
     if conf.name.is_none() && conf.provider.is_none() && conf.service_type.is_none() {
@@ -97,7 +97,7 @@ fn with_service_descriptor(
     conf: &EditSdtConf,
     descriptors: Vec<Descriptor>,
 ) -> Result<Option<DescriptorList>, AllocError>
-    requires { IsLawfulSdt conf.now }
+    requires { IsValidSdt conf.now }
     ensures { IfOk result (λ all. all ≡ ServiceChange.with_service_descriptor conf.now descriptors.items) }
 {
     let mut all = descriptors;
@@ -191,7 +191,7 @@ fn changed_descriptor(
     conf: &EditSdtConf,
     service: Service,
 ) -> Result<Option<Descriptor>, AllocError>
-    requires { IsLawfulSdt conf.now }
+    requires { IsValidSdt conf.now }
     ensures { IfOk result (λ descriptor. descriptor
         ≡ ServiceChange.changed_descriptor conf.now (service_fields service)) }
 {

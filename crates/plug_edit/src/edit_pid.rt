@@ -22,7 +22,7 @@ pub struct EditPidSteps<E: TableEdit + Drop> {
 pub type EditPid<E> = Silent<EditPidSteps<E>>;
 
 /// A new plugin, which has processed no packet. On PID 8191 nothing is edited.
-#[tactic(auto, unfolding(ts_demux::specs::TakenWhere::taken_behind))]
+#[tactic(auto, unfolding(ts_demux::specs::TakenWhere::taken_after))]
 pub fn new_edit_pid<E: TableEdit + Drop>(
     alloc: Global,
     pid: u16,
@@ -31,7 +31,7 @@ pub fn new_edit_pid<E: TableEdit + Drop>(
     requires { pid ≤ NULL_PID }
     ensures rule { IfOk result (λ plugin. ⟦<EditPid<E> as Plugin>⟧.rule plugin ≡ edit_rule pid (E.change edit)) }
     ensures fresh { IfOk result (λ plugin. ⟦<EditPid<E> as Plugin>⟧.stands_for plugin [] 0) }
-    ensures steady { IfOk result (λ plugin. ⟦<EditPid<E> as Plugin>⟧.steady plugin ≡ None) }
+    ensures preallocated { IfOk result (λ plugin. ⟦<EditPid<E> as Plugin>⟧.preallocated plugin ≡ None) }
 {
     let edited = if pid < NULL_PID { pid } else { 0 };
     Ok(Silent {
@@ -65,7 +65,7 @@ impl<E: TableEdit + Drop> Steps for EditPidSteps<E> {
     ghost stands_for = { λ s history. has_failed s.editor ≡ false → s.pid < NULL_PID
         → StandsFor (E.change (edit_of s.editor)) s.editor s.pid (taken_of s.pid history) };
 
-    ghost steady = { λ _. None };
+    ghost preallocated = { λ _. None };
 
     fn step(&mut self, at: u64, packet: &mut Packet, _labels: &mut Labels) -> Outcome {
         if packet.pid() != self.pid {

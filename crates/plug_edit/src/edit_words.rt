@@ -2,13 +2,13 @@
 
 ghost use Rattle.std.specs.Prelude.{◌≡◌, ◌<◌, ◌+◌, IfOk, MatchResult, false, true};
 ghost use Rattle.std.specs.Option.{ForSome};
-ghost use Rattle.option_words.specs.Forms.{number};
-ghost use Rattle.option_words.specs.Options.{is_formed};
-ghost use Rattle.option_words.specs.Refusal.{IsRefusedBy};
-ghost use Rattle.option_words.specs.declared.words_rule.WordsRule.TheVariants.{Value};
+ghost use Rattle.plugin_options.specs.Forms.{number};
+ghost use Rattle.plugin_options.specs.Options.{is_formed};
+ghost use Rattle.plugin_options.specs.Refusal.{IsRefusedBy};
+ghost use Rattle.plugin_options.specs.declared.words_rule.WordsRule.TheVariants.{Value};
 ghost use Rattle.plug_edit.specs.EditWords.{number_found};
 
-use option_words::{ParsedOptions, Refusal};
+use plugin_options::{ParsedOptions, Refusal};
 
 /// The number of an option, from 0 to `most`, if it is given.
 pub fn number_up_to(found: &ParsedOptions, name: &str, most: u64) -> Result<Option<u64>, Refusal>

@@ -3,7 +3,7 @@
 ghost use Rattle.std.specs.Prelude.{◌≡◌, IfOk};
 
 use crate::texts::copy_of_text;
-use plug_conf::NumberSet;
+use plugin_options::NumberSet;
 use std::alloc::{AllocError, Global};
 use ts_outside::NameText;
 

@@ -5,14 +5,14 @@ ghost use Rattle.std.specs.List.{position};
 ghost use Rattle.ts_si.specs.SiTables.{nit_held, stream_item};
 ghost use Rattle.plug_edit.specs.NitEdit;
 ghost use Rattle.plug_edit.specs.NitEdit.{edited_nit, without_streams};
-ghost use Rattle.plug_edit.specs.NitSettings.{IsLawfulNit};
+ghost use Rattle.plug_edit.specs.NitSettings.{IsValidNit};
 
 use crate::nit_conf::EditNitConf;
 use crate::numbers::number_or;
 use crate::put_first::put_first;
 use crate::versions::version_after;
-use plug_conf::NumberSet;
 use plug_psi::in_room;
+use plugin_options::NumberSet;
 use std::alloc::{AllocError, Global};
 use ts_bits::{Descriptor, DescriptorList};
 use ts_descr_dvb::{DvbDescr, NetworkName, text_bytes};
@@ -22,7 +22,7 @@ use ts_si::{Nit, NitStream, NitStreamList};
 /// A NIT after the edit of `nit`: transport streams are removed, and network_id, the name and the version are set.
 /// `None` if the name's descriptor would exceed 255 bytes. After `AllocError` nothing of the NIT is left.
 pub fn edit_nit(alloc: Global, conf: &EditNitConf, nit: Nit) -> Result<Option<Nit>, AllocError>
-    requires { IsLawfulNit conf.now }
+    requires { IsValidNit conf.now }
     ensures { IfOk result (λ edited. option_map nit_held edited ≡ edited_nit conf.now (nit_held nit)) }
 {
     let Nit {

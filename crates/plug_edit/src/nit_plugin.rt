@@ -3,7 +3,7 @@
 ghost use Rattle.std.specs.Prelude.{◌≡◌, [], None, IfOk};
 ghost use Rattle.plug_edit.specs.Changes.{change_nit};
 ghost use Rattle.plug_edit.specs.EditRule.{edit_rule};
-ghost use Rattle.plug_edit.specs.NitSettings.{IsLawfulNit};
+ghost use Rattle.plug_edit.specs.NitSettings.{IsValidNit};
 
 use crate::edit_pid::{EditPid, new_edit_pid};
 use crate::nit_conf::EditNitConf;
@@ -17,7 +17,7 @@ use ts_si::Nit;
 #[derive(Drop)]
 pub struct NitEdit {
     conf: EditNitConf,
-    ghost lawful: { IsLawfulNit conf },
+    ghost valid: { IsValidNit conf },
 }
 
 impl EditsTable for NitEdit {
@@ -46,10 +46,10 @@ pub fn new_edit_nit(
     conf: &EditNitConf,
     _buffer: usize,
 ) -> Result<EditNit, AllocError>
-    requires { IsLawfulNit conf.now }
+    requires { IsValidNit conf.now }
     ensures rule { IfOk result (λ plugin. ⟦<EditNit as Plugin>⟧.rule plugin ≡ edit_rule 16 (change_nit conf.now)) }
     ensures fresh { IfOk result (λ plugin. ⟦<EditNit as Plugin>⟧.stands_for plugin [] 0) }
-    ensures steady { IfOk result (λ plugin. ⟦<EditNit as Plugin>⟧.steady plugin ≡ None) }
+    ensures preallocated { IfOk result (λ plugin. ⟦<EditNit as Plugin>⟧.preallocated plugin ≡ None) }
 {
     let edit = Current {
         edit: NitEdit {

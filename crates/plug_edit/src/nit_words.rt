@@ -1,18 +1,18 @@
 //! The options of `nit`, and its settings from their values.
 
 ghost use Rattle.std.specs.Prelude.{◌≡◌, IfOk};
-ghost use Rattle.option_words.specs.Refusal.{ReadsParsed};
-ghost use Rattle.plug_edit.specs.NitSettings.{IsLawfulNit};
+ghost use Rattle.plugin_options.specs.Refusal.{ReadsParsed};
+ghost use Rattle.plug_edit.specs.NitSettings.{IsValidNit};
 ghost use Rattle.plug_edit.specs.NitWords.{nit};
 
 use crate::edit_words::number_up_to;
 use crate::limits::{LAST_ID, LAST_VERSION};
 use crate::nit_conf::EditNitConf;
 use crate::versions::versions_agree;
-use option_words::{
+use plugin_entry::{PluginHelp, PluginSettings};
+use plugin_options::{
     Beside, Need, OptionRow, OptionText, OptionWord, ParsedOptions, Refusal, Takes, WordsRule,
 };
-use plugin_entry::{PluginHelp, PluginSettings};
 use std::alloc::Global;
 
 // The options of `nit`.
@@ -67,7 +67,7 @@ static NIT: [OptionRow; 5] = [
 // Reads the settings of `nit` from what its command found in the words.
 fn nit_settings(alloc: Global, found: &ParsedOptions) -> Result<EditNitConf, Refusal>
     ensures reads { ReadsParsed nit found.now result }
-    ensures lawful { IfOk result IsLawfulNit }
+    ensures valid { IfOk result IsValidNit }
 {
     let network_id = number_up_to(found, "network-id", LAST_ID)?;
     let new_version = number_up_to(found, "new-version", LAST_VERSION)?;

@@ -5,13 +5,13 @@ ghost use Rattle.std.specs.List.{All, position};
 ghost use Rattle.ts_packet.specs.declared.numbers.TheConstants.{PID_COUNT};
 ghost use Rattle.ts_psi.specs.PatTables.{pat_held, service_item};
 ghost use Rattle.plug_edit.specs.PatEdit.{edited_pat, is_service, with_service, with_services, without_services};
-ghost use Rattle.plug_edit.specs.PatSettings.{IsAddedService, IsLawfulPat};
+ghost use Rattle.plug_edit.specs.PatSettings.{IsAddedService, IsValidPat};
 
 use crate::numbers::{number_or, pid_or_held};
 use crate::pat_conf::EditPatConf;
 use crate::put_first::put_first;
 use crate::versions::version_after;
-use plug_conf::NumberSet;
+use plugin_options::NumberSet;
 use std::alloc::AllocError;
 use ts_psi::{Pat, PatService, PatServiceList};
 
@@ -19,7 +19,7 @@ use ts_psi::{Pat, PatService, PatServiceList};
 /// its number, or last. Then transport_stream_id, network PID and version are set. After `AllocError` nothing of the PAT
 /// is left.
 pub fn edit_pat(conf: &EditPatConf, pat: Pat) -> Result<Pat, AllocError>
-    requires { IsLawfulPat conf.now }
+    requires { IsValidPat conf.now }
     ensures { IfOk result (λ edited. pat_held edited ≡ edited_pat conf.now (pat_held pat)) }
 {
     let Pat {

@@ -3,7 +3,7 @@
 ghost use Rattle.std.specs.Prelude.{◌≡◌, [], None, IfOk};
 ghost use Rattle.plug_edit.specs.Changes.{change_pat};
 ghost use Rattle.plug_edit.specs.EditRule.{edit_rule};
-ghost use Rattle.plug_edit.specs.PatSettings.{IsLawfulPat};
+ghost use Rattle.plug_edit.specs.PatSettings.{IsValidPat};
 
 use crate::edit_pid::{EditPid, new_edit_pid};
 use crate::pat_conf::EditPatConf;
@@ -17,7 +17,7 @@ use ts_psi::Pat;
 #[derive(Drop)]
 pub struct PatEdit {
     conf: EditPatConf,
-    ghost lawful: { IsLawfulPat conf },
+    ghost valid: { IsValidPat conf },
 }
 
 impl EditsTable for PatEdit {
@@ -43,10 +43,10 @@ pub fn new_edit_pat(
     conf: &EditPatConf,
     _buffer: usize,
 ) -> Result<EditPat, AllocError>
-    requires { IsLawfulPat conf.now }
+    requires { IsValidPat conf.now }
     ensures rule { IfOk result (λ plugin. ⟦<EditPat as Plugin>⟧.rule plugin ≡ edit_rule 0 (change_pat conf.now)) }
     ensures fresh { IfOk result (λ plugin. ⟦<EditPat as Plugin>⟧.stands_for plugin [] 0) }
-    ensures steady { IfOk result (λ plugin. ⟦<EditPat as Plugin>⟧.steady plugin ≡ None) }
+    ensures preallocated { IfOk result (λ plugin. ⟦<EditPat as Plugin>⟧.preallocated plugin ≡ None) }
 {
     let edit = Current {
         edit: PatEdit {

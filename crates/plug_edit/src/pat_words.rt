@@ -2,13 +2,13 @@
 
 ghost use Rattle.std.specs.Prelude.{◌≡◌, IfOk, MatchResult, codes, false, true};
 ghost use Rattle.std.specs.List.{All};
-ghost use Rattle.option_words.specs.Forms.{pairs};
-ghost use Rattle.option_words.specs.Options.{is_formed};
-ghost use Rattle.option_words.specs.Refusal.{IsRefusedBy, ReadsParsed};
-ghost use Rattle.option_words.specs.declared.words_rule.WordsRule.TheVariants.{Value};
-ghost use Rattle.plug_conf.specs.declared.limits.TheConstants.{LAST_PID};
+ghost use Rattle.plugin_options.specs.Forms.{pairs};
+ghost use Rattle.plugin_options.specs.Options.{is_formed};
+ghost use Rattle.plugin_options.specs.Refusal.{IsRefusedBy, ReadsParsed};
+ghost use Rattle.plugin_options.specs.declared.words_rule.WordsRule.TheVariants.{Value};
+ghost use Rattle.plugin_options.specs.declared.limits.TheConstants.{LAST_PID};
 ghost use Rattle.plug_edit.specs.EditWords.{pairs_found, slash};
-ghost use Rattle.plug_edit.specs.PatSettings.{IsAddedService, IsLawfulPat};
+ghost use Rattle.plug_edit.specs.PatSettings.{IsAddedService, IsValidPat};
 ghost use Rattle.plug_edit.specs.PatWords.{pat};
 ghost use Rattle.plug_edit.specs.declared.limits.TheConstants.{LAST_ID};
 
@@ -16,11 +16,11 @@ use crate::edit_words::number_up_to;
 use crate::limits::{LAST_ID, LAST_VERSION};
 use crate::pat_conf::EditPatConf;
 use crate::versions::versions_agree;
-use option_words::{
-    Beside, Need, OptionRow, OptionText, OptionWord, ParsedOptions, Refusal, Sign, Takes, WordsRule,
-};
-use plug_conf::{LAST_PID, PairList};
 use plugin_entry::{PluginHelp, PluginSettings};
+use plugin_options::{
+    Beside, LAST_PID, Need, OptionRow, OptionText, OptionWord, PairList, ParsedOptions, Refusal,
+    Sign, Takes, WordsRule,
+};
 use std::alloc::Global;
 
 // The options of `pat`.
@@ -90,7 +90,7 @@ fn added_services(alloc: Global, found: &ParsedOptions) -> Result<PairList, Refu
         (λ list. (is_formed (pairs slash (1, LAST_ID) (0, LAST_PID)) (codes "add-service") found.now ≡ true)
         × (list ≡ pairs_found (codes "add-service") (1, LAST_ID) (0, LAST_PID) found.now))
         (IsRefusedBy Value (is_formed (pairs slash (1, LAST_ID) (0, LAST_PID)) (codes "add-service") found.now ≡ false)) }
-    ensures lawful { IfOk result (All IsAddedService) }
+    ensures valid { IfOk result (All IsAddedService) }
 {
     found.pair_list(alloc, "add-service", '/', (1, LAST_ID), (0, LAST_PID))
 }
@@ -98,7 +98,7 @@ fn added_services(alloc: Global, found: &ParsedOptions) -> Result<PairList, Refu
 // Reads the settings of `pat` from what its command found in the words.
 fn pat_settings(alloc: Global, found: &ParsedOptions) -> Result<EditPatConf, Refusal>
     ensures reads { ReadsParsed pat found.now result }
-    ensures lawful { IfOk result IsLawfulPat }
+    ensures valid { IfOk result IsValidPat }
 {
     let ts_id = number_up_to(found, "ts-id", LAST_ID)?;
     let nit = number_up_to(found, "nit", LAST_PID)?;

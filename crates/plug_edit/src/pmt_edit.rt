@@ -6,12 +6,12 @@ ghost use Rattle.ts_packet.specs.declared.numbers.TheConstants.{PID_COUNT};
 ghost use Rattle.ts_psi.specs.PsiTables.{component_item, pmt_held};
 ghost use Rattle.plug_edit.specs.PmtEdit;
 ghost use Rattle.plug_edit.specs.PmtEdit.{edited_pmt, is_on, moved, moved_by, moved_component, with_component, with_components, without_components};
-ghost use Rattle.plug_edit.specs.PmtSettings.{IsAddedComponent, IsLawfulPmt, IsMove};
+ghost use Rattle.plug_edit.specs.PmtSettings.{IsAddedComponent, IsValidPmt, IsMove};
 
 use crate::numbers::pid_or;
 use crate::pmt_conf::EditPmtConf;
 use crate::versions::version_after;
-use plug_conf::NumberSet;
+use plugin_options::NumberSet;
 use std::alloc::{AllocError, Global};
 use ts_bits::DescriptorList;
 use ts_psi::{Component, ComponentList, Pmt};
@@ -19,7 +19,7 @@ use ts_psi::{Component, ComponentList, Pmt};
 /// A PMT after the edit of `pmt`: components are removed, others are added, PIDs are moved, and PCR_PID and version are
 /// set. After `AllocError` nothing of the PMT is left.
 pub fn edit_pmt(alloc: Global, conf: &EditPmtConf, pmt: Pmt) -> Result<Pmt, AllocError>
-    requires { IsLawfulPmt conf.now }
+    requires { IsValidPmt conf.now }
     ensures { IfOk result (λ edited. pmt_held edited ≡ edited_pmt conf.now (pmt_held pmt)) }
 {
     let Pmt {

@@ -3,7 +3,7 @@
 ghost use Rattle.std.specs.Prelude.{◌≡◌, [], None, IfOk};
 ghost use Rattle.plug_edit.specs.Changes.{change_pmt};
 ghost use Rattle.plug_edit.specs.EditRule.{edit_rule};
-ghost use Rattle.plug_edit.specs.PmtSettings.{IsLawfulPmt};
+ghost use Rattle.plug_edit.specs.PmtSettings.{IsValidPmt};
 
 use crate::edit_pid::{EditPid, new_edit_pid};
 use crate::pmt_conf::EditPmtConf;
@@ -17,7 +17,7 @@ use ts_psi::Pmt;
 #[derive(Drop)]
 pub struct PmtEdit {
     conf: EditPmtConf,
-    ghost lawful: { IsLawfulPmt conf },
+    ghost valid: { IsValidPmt conf },
 }
 
 impl EditsTable for PmtEdit {
@@ -43,10 +43,10 @@ pub fn new_edit_pmt(
     conf: &EditPmtConf,
     _buffer: usize,
 ) -> Result<EditPmt, AllocError>
-    requires { IsLawfulPmt conf.now }
+    requires { IsValidPmt conf.now }
     ensures rule { IfOk result (λ plugin. ⟦<EditPmt as Plugin>⟧.rule plugin ≡ edit_rule conf.now.pmt_pid (change_pmt conf.now)) }
     ensures fresh { IfOk result (λ plugin. ⟦<EditPmt as Plugin>⟧.stands_for plugin [] 0) }
-    ensures steady { IfOk result (λ plugin. ⟦<EditPmt as Plugin>⟧.steady plugin ≡ None) }
+    ensures preallocated { IfOk result (λ plugin. ⟦<EditPmt as Plugin>⟧.preallocated plugin ≡ None) }
 {
     let edit = Current {
         edit: PmtEdit {

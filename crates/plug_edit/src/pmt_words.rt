@@ -2,13 +2,13 @@
 
 ghost use Rattle.std.specs.Prelude.{◌≡◌, IfOk, MatchResult, codes, false, true};
 ghost use Rattle.std.specs.List.{All};
-ghost use Rattle.option_words.specs.Forms.{pairs};
-ghost use Rattle.option_words.specs.Options.{is_formed};
-ghost use Rattle.option_words.specs.Refusal.{IsRefusedBy, ReadsParsed};
-ghost use Rattle.option_words.specs.declared.words_rule.WordsRule.TheVariants.{Value};
-ghost use Rattle.plug_conf.specs.declared.limits.TheConstants.{LAST_PID};
+ghost use Rattle.plugin_options.specs.Forms.{pairs};
+ghost use Rattle.plugin_options.specs.Options.{is_formed};
+ghost use Rattle.plugin_options.specs.Refusal.{IsRefusedBy, ReadsParsed};
+ghost use Rattle.plugin_options.specs.declared.words_rule.WordsRule.TheVariants.{Value};
+ghost use Rattle.plugin_options.specs.declared.limits.TheConstants.{LAST_PID};
 ghost use Rattle.plug_edit.specs.EditWords.{pairs_found, slash};
-ghost use Rattle.plug_edit.specs.PmtSettings.{IsAddedComponent, IsLawfulPmt, IsMove};
+ghost use Rattle.plug_edit.specs.PmtSettings.{IsAddedComponent, IsValidPmt, IsMove};
 ghost use Rattle.plug_edit.specs.PmtWords.{pmt};
 ghost use Rattle.plug_edit.specs.declared.limits.TheConstants.{LAST_TYPE};
 
@@ -16,11 +16,11 @@ use crate::edit_words::number_up_to;
 use crate::limits::{LAST_TYPE, LAST_VERSION};
 use crate::pmt_conf::EditPmtConf;
 use crate::versions::versions_agree;
-use option_words::{
-    Beside, Need, OptionRow, OptionText, OptionWord, ParsedOptions, Refusal, Sign, Takes, WordsRule,
-};
-use plug_conf::{LAST_PID, PairList};
 use plugin_entry::{PluginHelp, PluginSettings};
+use plugin_options::{
+    Beside, LAST_PID, Need, OptionRow, OptionText, OptionWord, PairList, ParsedOptions, Refusal,
+    Sign, Takes, WordsRule,
+};
 use std::alloc::Global;
 
 // The options of `pmt`.
@@ -102,7 +102,7 @@ fn added_components(alloc: Global, found: &ParsedOptions) -> Result<PairList, Re
         (λ list. (is_formed (pairs slash (0, LAST_PID) (0, LAST_TYPE)) (codes "add-pid") found.now ≡ true)
         × (list ≡ pairs_found (codes "add-pid") (0, LAST_PID) (0, LAST_TYPE) found.now))
         (IsRefusedBy Value (is_formed (pairs slash (0, LAST_PID) (0, LAST_TYPE)) (codes "add-pid") found.now ≡ false)) }
-    ensures lawful { IfOk result (All IsAddedComponent) }
+    ensures valid { IfOk result (All IsAddedComponent) }
 {
     found.pair_list(alloc, "add-pid", '/', (0, LAST_PID), (0, LAST_TYPE))
 }
@@ -113,7 +113,7 @@ fn moved_pids(alloc: Global, found: &ParsedOptions) -> Result<PairList, Refusal>
         (λ list. (is_formed (pairs slash (0, LAST_PID) (0, LAST_PID)) (codes "move-pid") found.now ≡ true)
         × (list ≡ pairs_found (codes "move-pid") (0, LAST_PID) (0, LAST_PID) found.now))
         (IsRefusedBy Value (is_formed (pairs slash (0, LAST_PID) (0, LAST_PID)) (codes "move-pid") found.now ≡ false)) }
-    ensures lawful { IfOk result (All IsMove) }
+    ensures valid { IfOk result (All IsMove) }
 {
     found.pair_list(alloc, "move-pid", '/', (0, LAST_PID), (0, LAST_PID))
 }
@@ -121,7 +121,7 @@ fn moved_pids(alloc: Global, found: &ParsedOptions) -> Result<PairList, Refusal>
 // Reads the settings of `pmt` from what its command found in the words.
 fn pmt_settings(alloc: Global, found: &ParsedOptions) -> Result<EditPmtConf, Refusal>
     ensures reads { ReadsParsed pmt found.now result }
-    ensures lawful { IfOk result IsLawfulPmt }
+    ensures valid { IfOk result IsValidPmt }
 {
     if !found.has_value("pmt-pid") {
         return Err(Refusal::Broken(WordsRule::Missing));

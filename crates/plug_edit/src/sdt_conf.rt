@@ -5,7 +5,7 @@ ghost use Rattle.plug_edit.specs.SdtSettings.{changes_service, sdt_together};
 
 use crate::texts::copy_of_text;
 use crate::versions::versions_agree;
-use plug_conf::NumberSet;
+use plugin_options::NumberSet;
 use std::alloc::{AllocError, Global};
 use ts_outside::NameText;
 

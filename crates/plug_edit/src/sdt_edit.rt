@@ -5,13 +5,13 @@ ghost use Rattle.std.specs.List.{position};
 ghost use Rattle.ts_si.specs.SiTables.{sdt_held, service_item};
 ghost use Rattle.plug_edit.specs.SdtEdit;
 ghost use Rattle.plug_edit.specs.SdtEdit.{edited_sdt, has_id, is_service, new_service, without_services};
-ghost use Rattle.plug_edit.specs.SdtSettings.{IsLawfulSdt};
+ghost use Rattle.plug_edit.specs.SdtSettings.{IsValidSdt};
 
 use crate::change_service::change_service;
 use crate::put_first::put_first;
 use crate::sdt_conf::EditSdtConf;
 use crate::versions::version_after;
-use plug_conf::NumberSet;
+use plugin_options::NumberSet;
 use std::alloc::{AllocError, Global};
 use ts_bits::DescriptorList;
 use ts_si::{Sdt, SdtService, SdtServiceList};
@@ -20,7 +20,7 @@ use ts_table_rows::Item;
 /// An SDT after the edit of `sdt`: services are removed, one is changed, or added last if it is missing, and the version
 /// is set. `None` if a descriptor would exceed 255 bytes. After `AllocError` nothing of the SDT is left.
 pub fn edit_sdt(alloc: Global, conf: &EditSdtConf, sdt: Sdt) -> Result<Option<Sdt>, AllocError>
-    requires { IsLawfulSdt conf.now }
+    requires { IsValidSdt conf.now }
     ensures { IfOk result (λ edited. option_map sdt_held edited ≡ edited_sdt conf.now (sdt_held sdt)) }
 {
     let Sdt {
@@ -60,7 +60,7 @@ fn with_named(
     conf: &EditSdtConf,
     services: Vec<SdtService>,
 ) -> Result<Option<Vec<SdtService>>, AllocError>
-    requires { IsLawfulSdt conf.now }
+    requires { IsValidSdt conf.now }
     ensures { IfOk result (λ all. option_map (λ v. map service_item v.items) all
         ≡ SdtEdit.with_named conf.now conf.now.service (map service_item services.items)) }
 {
@@ -77,7 +77,7 @@ fn with_service(
     id: u16,
     services: Vec<SdtService>,
 ) -> Result<Option<Vec<SdtService>>, AllocError>
-    requires { IsLawfulSdt conf.now }
+    requires { IsValidSdt conf.now }
     ensures { IfOk result (λ all. option_map (λ v. map service_item v.items) all
         ≡ SdtEdit.with_service conf.now id (map service_item services.items)) }
 {

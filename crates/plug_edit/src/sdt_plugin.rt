@@ -3,7 +3,7 @@
 ghost use Rattle.std.specs.Prelude.{◌≡◌, [], None, IfOk};
 ghost use Rattle.plug_edit.specs.Changes.{change_sdt};
 ghost use Rattle.plug_edit.specs.EditRule.{edit_rule};
-ghost use Rattle.plug_edit.specs.SdtSettings.{IsLawfulSdt};
+ghost use Rattle.plug_edit.specs.SdtSettings.{IsValidSdt};
 
 use crate::edit_pid::{EditPid, new_edit_pid};
 use crate::sdt_conf::EditSdtConf;
@@ -17,7 +17,7 @@ use ts_si::Sdt;
 #[derive(Drop)]
 pub struct SdtEdit {
     conf: EditSdtConf,
-    ghost lawful: { IsLawfulSdt conf },
+    ghost valid: { IsValidSdt conf },
 }
 
 impl EditsTable for SdtEdit {
@@ -46,10 +46,10 @@ pub fn new_edit_sdt(
     conf: &EditSdtConf,
     _buffer: usize,
 ) -> Result<EditSdt, AllocError>
-    requires { IsLawfulSdt conf.now }
+    requires { IsValidSdt conf.now }
     ensures rule { IfOk result (λ plugin. ⟦<EditSdt as Plugin>⟧.rule plugin ≡ edit_rule 17 (change_sdt conf.now)) }
     ensures fresh { IfOk result (λ plugin. ⟦<EditSdt as Plugin>⟧.stands_for plugin [] 0) }
-    ensures steady { IfOk result (λ plugin. ⟦<EditSdt as Plugin>⟧.steady plugin ≡ None) }
+    ensures preallocated { IfOk result (λ plugin. ⟦<EditSdt as Plugin>⟧.preallocated plugin ≡ None) }
 {
     let edit = Current {
         edit: SdtEdit {

@@ -1,17 +1,17 @@
 //! The options of `sdt`, and its settings from their values.
 
 ghost use Rattle.std.specs.Prelude.{◌≡◌, IfOk};
-ghost use Rattle.option_words.specs.Refusal.{ReadsParsed};
-ghost use Rattle.plug_edit.specs.SdtSettings.{IsLawfulSdt};
+ghost use Rattle.plugin_options.specs.Refusal.{ReadsParsed};
+ghost use Rattle.plug_edit.specs.SdtSettings.{IsValidSdt};
 ghost use Rattle.plug_edit.specs.SdtWords.{sdt};
 
 use crate::edit_words::number_up_to;
 use crate::limits::{LAST_ID, LAST_MODE, LAST_STATUS, LAST_TYPE, LAST_VERSION};
 use crate::sdt_conf::EditSdtConf;
-use option_words::{
+use plugin_entry::{PluginHelp, PluginSettings};
+use plugin_options::{
     Beside, Need, OptionRow, OptionText, OptionWord, ParsedOptions, Refusal, Takes, WordsRule,
 };
-use plugin_entry::{PluginHelp, PluginSettings};
 use std::alloc::Global;
 
 // The options of `sdt`. The first five are on services and on a service descriptor.
@@ -102,7 +102,7 @@ static SDT: [OptionRow; 9] = [
 // Reads the settings of `sdt` from what its command found in the words.
 fn sdt_settings(alloc: Global, found: &ParsedOptions) -> Result<EditSdtConf, Refusal>
     ensures reads { ReadsParsed sdt found.now result }
-    ensures lawful { IfOk result IsLawfulSdt }
+    ensures valid { IfOk result IsValidSdt }
 {
     let service = number_up_to(found, "service", LAST_ID)?;
     let service_type = number_up_to(found, "type", LAST_TYPE)?;

@@ -7,7 +7,7 @@ ghost use Rattle.plug_edit.specs.Versions.{IsVersion, edited_version};
 /// The version of an edited table: the one that is given, or else its own, which is incremented if that is asked for; after
 /// 31 comes 0.
 pub fn version_after(given: Option<u64>, increment: bool, version: u8) -> u8
-    requires lawful { IsVersion given }
+    requires valid { IsVersion given }
     requires in_range { version < 32 }
     ensures version { result ≡ edited_version given increment version }
     ensures in_range { result < 32 }

@@ -1,7 +1,7 @@
 -- Valid settings of `until`.
 -- This project's own rule.
 use Rattle.std.specs.Prelude.{◌==◌, ◌+◌, ◌≤◌, ◌&&◌, not, ℕ, Bool, IfSome, IsTrue, Option, if◌then◌else◌, is_some}
-use Rattle.plug_conf.specs.declared.limits.TheConstants.{MOST_NUMBER}
+use Rattle.plugin_options.specs.declared.limits.TheConstants.{MOST_NUMBER}
 use Rattle.plug_end.specs.declared.until_conf.UntilConf.{UntilConf}
 
 -- 1 for a number that is given, else 0
@@ -21,7 +21,7 @@ abbrev pub until_together : UntilConf → Bool
 until_together c = counts_given c == 1 && not (c.exclude_last && c.joint_termination)
 
 -- the settings give what `until` needs, each number in its range, and no two that exclude each other
-pub record IsLawfulUntil (c : UntilConf) : Type 0 where
+pub record IsValidUntil (c : UntilConf) : Type 0 where
   pub of_packets : IsCount c.packets
   pub of_bytes : IsCount c.bytes
   pub of_unit_starts : IsCount c.unit_start_count

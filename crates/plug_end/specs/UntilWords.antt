@@ -4,11 +4,11 @@ use Rattle.std.specs.Prelude.{ℕ, ◌||◌, List, [], ◌∷◌, Option, codes}
 use Rattle.clap.specs.Walk.{Row}
 use Rattle.plug_end.specs.UntilSettings.{until_together}
 use Rattle.plug_end.specs.declared.until_conf.UntilConf.{UntilConf}
-use Rattle.plug_conf.specs.declared.limits.TheConstants.{MOST_NUMBER}
-use Rattle.option_words.specs.Forms.{Form, number}
-use Rattle.option_words.specs.Options.{OptionRow, flag, has_flag, has_value, read_value, value}
-use Rattle.option_words.specs.OptionTable.{OptionTable}
-use Rattle.option_words.specs.Number.{number_within}
+use Rattle.plugin_options.specs.declared.limits.TheConstants.{MOST_NUMBER}
+use Rattle.plugin_options.specs.Forms.{Form, number}
+use Rattle.plugin_options.specs.Options.{OptionRow, flag, has_flag, has_value, read_value, value}
+use Rattle.plugin_options.specs.OptionTable.{OptionTable}
+use Rattle.plugin_options.specs.Number.{number_within}
 
 -- a count, 1 to 2^60
 abbrev pub until_form : Form

@@ -27,15 +27,15 @@ pub struct Until {
 
 impl Until {
     ghost use Rattle.std.specs.Prelude.{◌≡◌, ◌*◌, [], Some, IfOk, ◌||◌};
-    ghost use Rattle.plug_end.specs.UntilSettings.{IsLawfulUntil};
+    ghost use Rattle.plug_end.specs.UntilSettings.{IsValidUntil};
     ghost use Rattle.plug_end.specs.UntilRule.{until_rule, reaches};
 
     /// A plugin that met no cell yet. It allocates nothing, here and in its steps.
     pub fn new(_alloc: Global, conf: &UntilConf, buffer: usize) -> Result<Until, AllocError>
-        requires { IsLawfulUntil conf.now }
+        requires { IsValidUntil conf.now }
         ensures rule { IfOk result (λ plugin. ⟦<Until as Plugin>⟧.rule plugin ≡ until_rule conf.now) }
         ensures fresh { IfOk result (λ plugin. ⟦<Until as Plugin>⟧.stands_for plugin [] 0) }
-        ensures steady { IfOk result (λ plugin. ⟦<Until as Plugin>⟧.steady plugin ≡ Some buffer) }
+        ensures preallocated { IfOk result (λ plugin. ⟦<Until as Plugin>⟧.preallocated plugin ≡ Some buffer) }
     {
         Ok(Until {
             packets: conf.packets,
@@ -79,7 +79,7 @@ impl Plugin for Until {
 
     ghost stands_for = { λ s history mark. Counts (conf_of s) s.met s.starts history mark };
 
-    ghost steady = { λ s. Some s.buffer };
+    ghost preallocated = { λ s. Some s.buffer };
 
     ghost silent = { λ _. true };
 

@@ -1,16 +1,16 @@
 //! The options of `until`, and its settings from their values.
 
 ghost use Rattle.std.specs.Prelude.{◌≡◌, IfOk};
-ghost use Rattle.plug_end.specs.UntilSettings.{IsLawfulUntil};
+ghost use Rattle.plug_end.specs.UntilSettings.{IsValidUntil};
 ghost use Rattle.plug_end.specs.UntilWords.{until};
-ghost use Rattle.option_words.specs.Refusal.{ReadsParsed};
+ghost use Rattle.plugin_options.specs.Refusal.{ReadsParsed};
 
 use crate::until_conf::UntilConf;
-use option_words::{
-    Beside, Need, OptionRow, OptionText, OptionWord, ParsedOptions, Refusal, Takes, WordsRule,
-};
-use plug_conf::MOST_NUMBER;
 use plugin_entry::{PluginHelp, PluginSettings};
+use plugin_options::{
+    Beside, MOST_NUMBER, Need, OptionRow, OptionText, OptionWord, ParsedOptions, Refusal, Takes,
+    WordsRule,
+};
 use std::alloc::Global;
 
 // The options of `until`.
@@ -65,7 +65,7 @@ static UNTIL: [OptionRow; 5] = [
 // Reads the settings of `until` from what its command found in the words.
 fn until_settings(found: &ParsedOptions) -> Result<UntilConf, Refusal>
     ensures reads { ReadsParsed until found.now result }
-    ensures lawful { IfOk result IsLawfulUntil }
+    ensures valid { IfOk result IsValidUntil }
 {
     let is_given = found.has_value("packets")
         || found.has_value("bytes")

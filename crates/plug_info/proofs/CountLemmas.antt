@@ -10,7 +10,7 @@ use Rattle.ts_packet.specs.Cells.{Live, Dropped, live_packets, packet_in}
 use Rattle.ts_packet.specs.Header.{counter_of, error_indicator_of, pid_of}
 use Rattle.chain_model.specs.declared.positions.TheConstants.{POSITION_LIMIT}
 use Rattle.plugin_notes.specs.declared.continuity_error.ContinuityError.{ContinuityError}
-use Rattle.plugin_notes.specs.ContinuityErrors.{error_behind, error_on, errors_in, place_of_error}
+use Rattle.plugin_notes.specs.ContinuityErrors.{error_after, error_on, errors_in, place_of_error}
 use Rattle.plugin_notes.specs.Counters.{is_fault, last_of, wanted_behind}
 use Rattle.plugin_notes.specs.Notes.{notes_after}
 use Rattle.plugin_notes.specs.Tallies.{HasRoomIn, IsCounted}
@@ -44,7 +44,7 @@ kind-more kind history packet labels =
 
 -- a fault has the PID of its packet
 fault_pid : (at : ℕ) (last : Option (List ℕ)) (packet : List ℕ) (w : Bool)
-    → map (λ (e : ContinuityError). e.pid) (if w then error_behind at last packet else []) ≡ (if is_any (if w then error_behind at last packet else []) then pid_of packet ∷ [] else [])
+    → map (λ (e : ContinuityError). e.pid) (if w then error_after at last packet else []) ≡ (if is_any (if w then error_after at last packet else []) then pid_of packet ∷ [] else [])
 fault_pid at last packet false = refl
 fault_pid at None packet true = refl
 fault_pid at (Some before) packet true =

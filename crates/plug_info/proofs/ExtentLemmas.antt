@@ -5,10 +5,10 @@ use Rattle.ts_packet.specs.Cells.{Live, Dropped}
 use Rattle.ts_packet.specs.MetRows.{Met, met_rows}
 use Rattle.ts_packet.proofs.RowLemmas.{met-more}
 use Rattle.plug_info.specs.ExtentKept.{extent_with, kept_extent}
-use Rattle.plug_info.specs.PacketExtent.{last_behind}
+use Rattle.plug_info.specs.PacketExtent.{last_after}
 use Rattle.plug_info.specs.declared.extent.Extent.{Extent}
 
-pub last-more : (first : Met) (rows : List Met) (x : Met) → last_behind first (rows ++ x ∷ []) ≡ x
+pub last-more : (first : Met) (rows : List Met) (x : Met) → last_after first (rows ++ x ∷ []) ≡ x
 last-more first [] x = refl
 last-more first (row ∷ rows) x = last-more row rows x
 

@@ -2,7 +2,7 @@
 use Rattle.std.proofs.Common.{◌≡◌, ℕ, ◌+◌, List, ◌++◌, ap, ◌∙◌, append_assoc}
 use Rattle.std.specs.List.{flat_map}
 use Rattle.plugin_notes.specs.PidPackets.{numbers_below}
-use Rattle.info_texts.proofs.LineLemmas.{flat_more}
+use Rattle.plug_info_texts.proofs.LineLemmas.{flat_more}
 
 -- a text with one more number
 pub text_more : {X : Type 0} (f : ℕ → List X) (n : ℕ) (old now new : List X) → now ≡ old ++ flat_map f (numbers_below n) → new ≡ now ++ f n

@@ -1,9 +1,9 @@
 -- Lemmas on lists of items in JSON, and on the parts of objects.
 use Rattle.std.proofs.Common.{◌≡◌, ℕ, List, [], ◌∷◌, ◌++◌, map, ap, ◌∙◌, refl, Option}
 use Rattle.std.specs.List.{flat_map}
-use Rattle.info_texts.specs.InfoJson.{component_tail, service_tail, whole_json}
-use Rattle.info_texts.specs.declared.pid_numbers.PidNumbers.{PidNumbers}
-use Rattle.info_texts.specs.declared.scene.Scene.{Scene}
+use Rattle.plug_info_texts.specs.InfoJson.{component_tail, service_tail, whole_json}
+use Rattle.plug_info_texts.specs.declared.pid_numbers.PidNumbers.{PidNumbers}
+use Rattle.plug_info_texts.specs.declared.scene.Scene.{Scene}
 
 -- a map within a `flat_map`
 pub flat_map_map : {X Y Z : Type 0} (g : Y → List Z) (f : X → Y) (xs : List X) → flat_map (λ x. g (f x)) xs ≡ flat_map g (map f xs)

@@ -15,11 +15,11 @@ use Rattle.plugin_trait.specs.declared.line.Line.{Line}
 use Rattle.plugin_trait.specs.PlacedLines.{placed_at}
 use Rattle.plugin_notes.specs.PidPackets.{numbers_below}
 use Rattle.plugin_notes.proofs.PidLemmas.{numbers_below_more, placed_at-append}
-use Rattle.info_texts.proofs.LineLemmas.{flat_more}
+use Rattle.plug_info_texts.proofs.LineLemmas.{flat_more}
 use Rattle.plug_psi.specs.InForce.{service_in, services_in}
-use Rattle.info_texts.specs.InfoTexts.{component_tail}
-use Rattle.info_texts.specs.declared.pid_numbers.PidNumbers.{PidNumbers}
-use Rattle.info_texts.specs.declared.scene.Scene.{Scene}
+use Rattle.plug_info_texts.specs.InfoTexts.{component_tail}
+use Rattle.plug_info_texts.specs.declared.pid_numbers.PidNumbers.{PidNumbers}
+use Rattle.plug_info_texts.specs.declared.scene.Scene.{Scene}
 
 -- lines after lines
 pub pushed_after : (cut : ℕ) (lines first second : List Line) (xs ys : List (List ℕ)) → first ≡ lines ++ placed_at cut xs → second ≡ first ++ placed_at cut ys

@@ -2,16 +2,16 @@
 use Rattle.std.proofs.Common.{◌≡◌, ℕ, ◌-◌, ◌/◌, ◌%◌, List, [], ◌∷◌, codes, length, true, false, refl, Option, None, Some}
 use Rattle.std.specs.List.{fold}
 use Rattle.std.specs.Fmt.{digits}
-use Rattle.bit_rows.specs.BitRow.{bit_of, field}
+use Rattle.ts_bit_rows.specs.BitRow.{bit_of, field}
 use Rattle.ts_packet.specs.declared.cell.Cell.{Cell}
 use Rattle.ts_packet.specs.Cells.{Live, Dropped, live_packets}
 use Rattle.ts_packet.specs.Adaptation.{adaptation_length_of, discontinuity_of}
 use Rattle.ts_packet.specs.Pcr.{clock_bytes, clock_of, has_pcr_of}
-use Rattle.plug_pcr.specs.ClockJitter.{units_behind}
+use Rattle.plug_pcr.specs.ClockJitter.{units_after}
 use Rattle.plug_pcr.specs.declared.limits.TheConstants.{CLOCK_PERIOD}
-use Rattle.info_texts.specs.InfoTexts.{portion_text}
-use Rattle.info_texts.specs.Rounding.{rounded}
-use Rattle.info_texts.specs.declared.scene.Scene.{Scene}
+use Rattle.plug_info_texts.specs.InfoTexts.{portion_text}
+use Rattle.plug_info_texts.specs.Rounding.{rounded}
+use Rattle.plug_info_texts.specs.declared.scene.Scene.{Scene}
 use Rattle.plug_info.specs.PacketExtent.{extent_of}
 use Rattle.plug_info.specs.PcrRate.{breaks_in, has_part, rate_on, rate_over, ways_on, wider_of}
 
@@ -32,7 +32,7 @@ unfolding rounded
 rate-beyond = refl
 
 -- a PCR that wraps to 0
-wrap-row : units_behind 2576980377500 200 ≡ 300
+wrap-row : units_after 2576980377500 200 ≡ 300
 wrap-row = refl
 
 -- a second ahead has a part; one unit more, no unit, a unit back and a new time base have none
@@ -45,7 +45,7 @@ gap-row = refl
 still-row : has_part false 0 ≡ false
 still-row = refl
 
-back-row : has_part false (units_behind 7000 6999) ≡ false
+back-row : has_part false (units_after 7000 6999) ≡ false
 back-row = refl
 
 base-row : has_part true 3000 ≡ false

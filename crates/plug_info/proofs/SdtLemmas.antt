@@ -8,7 +8,7 @@ use Rattle.ts_demux.specs.CountedPackets.{counts}
 use Rattle.ts_demux.specs.PidTables as reading
 use Rattle.ts_demux.specs.TablesOn.{Completes}
 use Rattle.ts_demux.specs.declared.pid_tables.PidTables.{PidTables}
-use Rattle.plug_psi.specs.LastFound.{found_behind}
+use Rattle.plug_psi.specs.LastFound.{found_after}
 use Rattle.plug_psi.proofs.FoundLemmas.{found-more, found-none}
 use Rattle.plug_info.specs.SdtInForce.{current_sdt, current_sdt_of, last_sdt, sdt_for, sdt_of, sdt_with, stream_id_in}
 use Rattle.plug_info.specs.SdtStands.{HasFedSdt, kept_at, kept_with, last_kept}
@@ -27,8 +27,8 @@ sdt-new s read none none_last = record {
 -- the tables that a packet completes
 pub sdt-fed : (s s_new : SdtInForce) (fed : List (List ℕ)) (packet : List ℕ) (list tables : List (List (List ℕ))) → HasFedSdt s fed
     → reading.StandsFor s_new.tables 17 (fed ++ packet ∷ []) → Completes 17 fed packet tables → list ≡ tables
-    → ((id : ℕ) → kept_with s_new.kept id ≡ found_behind (current_sdt_of id) (kept_with s.kept id) list)
-    → last_kept s_new.kept ≡ found_behind current_sdt (last_kept s.kept) list
+    → ((id : ℕ) → kept_with s_new.kept id ≡ found_after (current_sdt_of id) (kept_with s.kept id) list)
+    → last_kept s_new.kept ≡ found_after current_sdt (last_kept s.kept) list
     → HasFedSdt s_new (fed ++ packet ∷ [])
 unfolding last_sdt sdt_with
 sdt-fed s s_new fed packet list tables w read completes same each last = record {

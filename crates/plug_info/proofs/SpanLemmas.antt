@@ -16,8 +16,8 @@ use Rattle.ts_packet.specs.Pcr.{clock_of, has_pcr_of}
 use Rattle.ts_packet.proofs.RowLemmas.{met-more}
 use Rattle.plugin_notes.specs.PidPackets.{numbers_below}
 use Rattle.plugin_notes.proofs.PidLemmas.{numbers_below_more}
-use Rattle.plug_info.specs.PacketExtent.{last_behind}
-use Rattle.plug_info.specs.PcrRate.{Way, breaks_in, has_sound_clock_on, is_break, is_span, positions_in, rate_at, rate_over, sound_clocks_on, units_in, way_between, ways_behind, ways_on, wider_of}
+use Rattle.plug_info.specs.PacketExtent.{last_after}
+use Rattle.plug_info.specs.PcrRate.{Way, breaks_in, has_sound_clock_on, is_break, is_span, positions_in, rate_at, rate_over, sound_clocks_on, units_in, way_between, ways_after, ways_on, wider_of}
 use Rattle.plug_info.specs.ClockSpans.{AreSpans, fits, met_clock, no_span, span_of, span_on, span_with, way_parts, wider_span}
 use Rattle.plug_info.specs.declared.clock_span.ClockSpan.{ClockSpan}
 use Rattle.plug_info.specs.declared.clock_span.MetClock.{MetClock}
@@ -25,7 +25,7 @@ use Rattle.plug_info.specs.declared.spans.Spans.{Spans}
 use Rattle.plug_info.proofs.ExtentLemmas.{last-more}
 
 -- the ways with one more packet
-ways-more : (first : Met) (rows : List Met) (x : Met) → ways_behind first (rows ++ x ∷ []) ≡ ways_behind first rows ++ way_between (last_behind first rows) x ∷ []
+ways-more : (first : Met) (rows : List Met) (x : Met) → ways_after first (rows ++ x ∷ []) ≡ ways_after first rows ++ way_between (last_after first rows) x ∷ []
 ways-more first [] x = refl
 ways-more first (row ∷ rows) x = ap (λ (ws : List Way). way_between first row ∷ ws) (ways-more row rows x)
 
@@ -91,14 +91,14 @@ span-more (first ∷ rows) row =
     parts _ _ _ _ _ _ _ _
     (ap (λ (r : Met). let s : Option MetClock = Some (met_clock r) in s) (last-more first rows row))
     (ap positions_in (ways-more first rows row)
-    ∙ (positions-append (ways_behind first rows) (way_between (last_behind first rows) row ∷ [])
-    ∙ ap (λ (n : ℕ). positions_in (ways_behind first rows) + n) (way-positions (last_behind first rows) row)))
+    ∙ (positions-append (ways_after first rows) (way_between (last_after first rows) row ∷ [])
+    ∙ ap (λ (n : ℕ). positions_in (ways_after first rows) + n) (way-positions (last_after first rows) row)))
     (ap units_in (ways-more first rows row)
-    ∙ (units-append (ways_behind first rows) (way_between (last_behind first rows) row ∷ [])
-    ∙ ap (λ (n : ℕ). units_in (ways_behind first rows) + n) (way-units (last_behind first rows) row)))
+    ∙ (units-append (ways_after first rows) (way_between (last_after first rows) row ∷ [])
+    ∙ ap (λ (n : ℕ). units_in (ways_after first rows) + n) (way-units (last_after first rows) row)))
     (ap breaks_in (ways-more first rows row)
-    ∙ (breaks-append (ways_behind first rows) (way_between (last_behind first rows) row ∷ [])
-    ∙ ap (λ (n : ℕ). breaks_in (ways_behind first rows) + n) (way-breaks (last_behind first rows) row)))
+    ∙ (breaks-append (ways_after first rows) (way_between (last_after first rows) row ∷ [])
+    ∙ ap (λ (n : ℕ). breaks_in (ways_after first rows) + n) (way-breaks (last_after first rows) row)))
 
 -- a packet at a position, with its position
 row_at : ℕ → List ℕ → ℕ → Met

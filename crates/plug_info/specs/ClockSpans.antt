@@ -5,7 +5,7 @@ use Rattle.ts_packet.specs.declared.cell.Cell.{Cell}
 use Rattle.ts_packet.specs.declared.numbers.TheConstants.{PID_COUNT}
 use Rattle.ts_packet.specs.MetRows.{Met}
 use Rattle.ts_packet.specs.Pcr.{clock_of}
-use Rattle.plug_pcr.specs.ClockJitter.{units_behind}
+use Rattle.plug_pcr.specs.ClockJitter.{units_after}
 use Rattle.plug_info.specs.PacketExtent.{last_row}
 use Rattle.plug_info.specs.PcrRate.{breaks_in, has_part, positions_in, sound_clocks_on, units_in, ways_of}
 use Rattle.plug_info.specs.declared.clock_span.ClockSpan.{ClockSpan}
@@ -16,8 +16,8 @@ use Rattle.plug_info.specs.declared.spans.Spans.{Spans}
 abbrev pub way_parts : Option MetClock → MetClock → Bool → ℕ × ℕ × ℕ
 way_parts None met breaks = (0, 0, 0)
 way_parts (Some last) met breaks =
-    if has_part breaks (units_behind last.clock met.clock)
-    then (met.at - last.at, units_behind last.clock met.clock, 0)
+    if has_part breaks (units_after last.clock met.clock)
+    then (met.at - last.at, units_after last.clock met.clock, 0)
     else (0, 0, 1)
 
 -- what is kept after one more PCR

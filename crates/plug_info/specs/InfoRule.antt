@@ -12,10 +12,10 @@ use Rattle.chain_model.specs.PluginRule.{PluginRule, passes}
 use Rattle.plugin_notes.specs.PidPackets.{numbers_below, packets_on}
 use Rattle.plug_psi.specs.InForce.{pat_of, pmt_of, services_in}
 use Rattle.plug_analyze.specs.AnalyzeRule.{fault_pids, is_scrambled}
-use Rattle.info_texts.specs.InfoJson
-use Rattle.info_texts.specs.InfoTexts
-use Rattle.info_texts.specs.InfoJson.{array, ca_json, component_json, number_or_null, pid_json, portion_json, service_json, stream_json, whole_json}
-use Rattle.info_texts.specs.InfoTexts.{ca_line, component_text, marks_text, pid_text, portion_text, sdt_texts, service_text, stream_text}
+use Rattle.plug_info_texts.specs.InfoJson
+use Rattle.plug_info_texts.specs.InfoTexts
+use Rattle.plug_info_texts.specs.InfoJson.{array, ca_json, component_json, number_or_null, pid_json, portion_json, service_json, stream_json, whole_json}
+use Rattle.plug_info_texts.specs.InfoTexts.{ca_line, component_text, marks_text, pid_text, portion_text, sdt_texts, service_text, stream_text}
 use Rattle.plug_info.specs.CaSystems.{emm_systems, program_descriptors, system_ids}
 use Rattle.plug_info.specs.PacketExtent.{extent_of}
 use Rattle.plug_info.specs.PcrRate.{breaks_of, rate_of}
@@ -26,9 +26,9 @@ pub use Rattle.plug_info.specs.SdtInForce.{stream_id_in}
 use Rattle.plug_info.specs.SdtStatus.{service_status}
 use Rattle.plug_info.specs.declared.ca_system.CaSystem.{CaSystem}
 use Rattle.plug_info.specs.declared.info_conf.InfoConf.{InfoConf}
-use Rattle.info_texts.specs.declared.pid_numbers.PidNumbers.{PidNumbers}
-use Rattle.info_texts.specs.declared.scene.Scene.{Scene}
-use Rattle.info_texts.specs.declared.stream_numbers.StreamNumbers.{StreamNumbers}
+use Rattle.plug_info_texts.specs.declared.pid_numbers.PidNumbers.{PidNumbers}
+use Rattle.plug_info_texts.specs.declared.scene.Scene.{Scene}
+use Rattle.plug_info_texts.specs.declared.stream_numbers.StreamNumbers.{StreamNumbers}
 
 -- how many packets on a PID are of each kind, in a list of cells
 abbrev pub numbers_on : ℕ → List Cell → PidNumbers

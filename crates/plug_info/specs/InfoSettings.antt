@@ -2,5 +2,5 @@
 use Rattle.plug_info.specs.declared.info_conf.InfoConf.{InfoConf}
 
 -- both values of its setting are valid
-abbrev pub IsLawfulInfo : InfoConf → Type 0
-IsLawfulInfo c = Unit {0}
+abbrev pub IsValidInfo : InfoConf → Type 0
+IsValidInfo c = Unit {0}

@@ -22,8 +22,8 @@ abbrev pub MeetsHistory : Info → List Cell → ℕ → Type 0
 MeetsHistory s history mark = (has_failed s ≡ false → StandsFor s history mark) × (mark ≤ length history)
 
 -- it names no number of positions at which it never runs out of memory, since its tables grow
-abbrev pub steady_of : Info → Option ℕ
-steady_of s = None
+abbrev pub preallocated_of : Info → Option ℕ
+preallocated_of s = None
 
 -- for how many cells its buffer has room
 abbrev pub room_of : Info → ℕ

@@ -1,8 +1,8 @@
 -- The options of `info`. This project's own rule.
 use Rattle.std.specs.Prelude.{List, [], ◌∷◌, true, codes}
 use Rattle.plug_info.specs.declared.info_conf.InfoConf.{InfoConf}
-use Rattle.option_words.specs.Options.{OptionRow, flag, has_flag}
-use Rattle.option_words.specs.OptionTable.{OptionTable}
+use Rattle.plugin_options.specs.Options.{OptionRow, flag, has_flag}
+use Rattle.plugin_options.specs.OptionTable.{OptionTable}
 
 -- the options
 abbrev pub info_rows : List OptionRow

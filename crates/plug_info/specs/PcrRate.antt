@@ -12,9 +12,9 @@ use Rattle.ts_packet.specs.MetRows.{Met, met_rows}
 use Rattle.ts_packet.specs.Pcr.{clock_of}
 use Rattle.plugin_notes.specs.PidPackets.{numbers_below}
 use Rattle.plug_pcr.specs.ClockFaults.{has_clock_on}
-use Rattle.plug_pcr.specs.ClockJitter.{units_behind}
+use Rattle.plug_pcr.specs.ClockJitter.{units_after}
 use Rattle.plug_pcr.specs.declared.limits.TheConstants.{MOST_BITRATE, PACKET_UNITS}
-use Rattle.info_texts.specs.Rounding.{rounded}
+use Rattle.plug_info_texts.specs.Rounding.{rounded}
 use Rattle.plug_info.specs.declared.clock_span.TheConstants.{LONGEST_SPAN}
 
 -- the packet, given with its position, is on the PID, has a PCR, and is not marked as damaged
@@ -36,19 +36,19 @@ pub record Way : Type 0 where
 abbrev pub way_between : Met → Met → Way
 way_between before row = record {
   positions = row.at - before.at;
-  units = units_behind (clock_of before.packet) (clock_of row.packet);
+  units = units_after (clock_of before.packet) (clock_of row.packet);
   breaks = discontinuity_of row.packet;
 }
 
 -- the ways from a packet on, through those after it
-abbrev pub ways_behind : Met → List Met → List Way
-ways_behind before [] = []
-ways_behind before (row ∷ rows) = way_between before row ∷ ways_behind row rows
+abbrev pub ways_after : Met → List Met → List Way
+ways_after before [] = []
+ways_after before (row ∷ rows) = way_between before row ∷ ways_after row rows
 
 -- the ways between packets with a PCR
 abbrev pub ways_of : List Met → List Way
 ways_of [] = []
-ways_of (first ∷ rows) = ways_behind first rows
+ways_of (first ∷ rows) = ways_after first rows
 
 -- A way has a part in the rate: the later PCR is of the same time base, and ahead of the earlier one by more than
 -- nothing and by no more than a second. Others are joints of two streams, gaps, and PCRs that are wrong.

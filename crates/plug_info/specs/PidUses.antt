@@ -8,7 +8,7 @@ use Rattle.ts_table_rows.specs.BodyReading.{first_number}
 use Rattle.ts_table_rows.specs.TableValues.{ItemHolding, TableHolding}
 use Rattle.plug_psi.specs.InForce.{names, pat_of, pmt_of, services_in}
 use Rattle.plug_psi.specs.ServicePids.{has_pid}
-use Rattle.info_texts.specs.InfoNames.{pid_names, text_for}
+use Rattle.plug_info_texts.specs.InfoNames.{pid_names, text_for}
 use Rattle.plug_info.specs.CaSystems.{ecm_systems, emm_systems}
 use Rattle.plug_info.specs.PmtFields.{pcr_pid_in}
 use Rattle.plug_info.specs.declared.ca_system.CaSystem.{CaSystem}

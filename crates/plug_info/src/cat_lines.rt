@@ -5,8 +5,8 @@ ghost use Rattle.std.specs.String.{string_bytes};
 ghost use Rattle.ts_packet.specs.declared.cell.Cell.{Cell as GivenCell};
 ghost use Rattle.ts_packet.specs.Cells.{live_packets};
 ghost use Rattle.plugin_trait.specs.PlacedLines.{placed_at};
-ghost use Rattle.info_texts.specs.InfoJson;
-ghost use Rattle.info_texts.specs.InfoJson.{behind_comma};
+ghost use Rattle.plug_info_texts.specs.InfoJson;
+ghost use Rattle.plug_info_texts.specs.InfoJson.{after_comma};
 ghost use Rattle.plug_info.specs.CaSystems.{emm_systems};
 ghost use Rattle.plug_info.specs.InfoRule.{system_line, system_object};
 ghost use Rattle.plug_info.specs.Tracked.{Tracks};
@@ -14,7 +14,7 @@ ghost use Rattle.plug_info.specs.Tracked.{Tracks};
 use crate::ca_system::CaSystem;
 use crate::pid_uses::emm_systems;
 use crate::tracker::Tracker;
-use info_texts::{array, push_item};
+use plug_info_texts::{array, push_item};
 use plugin_notes::push_line;
 use plugin_trait::{Line, LineText};
 use std::alloc::{AllocError, Global};
@@ -80,7 +80,7 @@ fn objects_json(alloc: Global, systems: &[CaSystem]) -> Result<String, AllocErro
 
 // Appends an object for each system to the items.
 fn push_objects(alloc: Global, items: &mut String, systems: &[CaSystem]) -> Result<(), AllocError>
-    ensures { OnOk result (string_bytes items.new ≡ string_bytes items.old ++ flat_map behind_comma (map system_object systems.now)) }
+    ensures { OnOk result (string_bytes items.new ≡ string_bytes items.old ++ flat_map after_comma (map system_object systems.now)) }
 {
     for system in systems {
         let text = format!(in alloc; "{{\"id\":{},\"emm\":{}}}", system.id, system.pid)?;

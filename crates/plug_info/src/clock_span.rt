@@ -1,10 +1,10 @@
 //! The clock of a PID, from its first PCR to its last.
 ghost use Rattle.std.specs.Prelude.{◌≡◌, Some, None, if◌then◌else◌};
-ghost use Rattle.plug_pcr.specs.ClockJitter.{units_behind};
+ghost use Rattle.plug_pcr.specs.ClockJitter.{units_after};
 ghost use Rattle.plug_info.specs.PcrRate.{has_part, rate_over};
 ghost use Rattle.plug_info.specs.ClockSpans.{fits, span_with, way_parts};
 
-use info_texts::rounded;
+use plug_info_texts::rounded;
 use plug_pcr::{CLOCK_PERIOD, MOST_BITRATE, PACKET_UNITS};
 
 /// By how much a PCR may be ahead of the one before it and still have a part in the bit rate, in units of the 27 MHz
@@ -89,7 +89,7 @@ fn has_part(breaks: bool, units: u64) -> bool
 
 // The units of the clock from one PCR to another, modulo its period.
 fn units_between(before: u64, clock: u64) -> u64
-    ensures { result ≡ units_behind before clock }
+    ensures { result ≡ units_after before clock }
 {
     let period = u128::from(CLOCK_PERIOD);
     ((u128::from(clock) + (period - u128::from(before) % period)) % period) as u64

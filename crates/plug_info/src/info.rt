@@ -25,16 +25,16 @@ impl Info {
     ghost use Rattle.ts_packet.specs.declared.cell.Cell.{Cell as GivenCell};
     ghost use Rattle.chain_model.specs.declared.positions.TheConstants.{POSITION_LIMIT};
     ghost use Rattle.plug_info.specs.InfoRule.{info_rule};
-    ghost use Rattle.plug_info.specs.InfoSettings.{IsLawfulInfo};
+    ghost use Rattle.plug_info.specs.InfoSettings.{IsValidInfo};
     ghost use Rattle.plug_info.specs.InfoStands.{IsFull, StandsFor, has_failed, room_of};
 
     /// A new plugin, which has processed no cell. It allocates its tables, and room for as many cells as the buffer
     /// holds; the tables in force grow with the stream.
     pub fn new(alloc: Global, conf: &InfoConf, buffer: usize) -> Result<Info, AllocError>
-        requires { IsLawfulInfo conf.now }
+        requires { IsValidInfo conf.now }
         ensures rule { IfOk result (λ plugin. ⟦<Info as Plugin>⟧.rule plugin ≡ info_rule conf.now) }
         ensures fresh { IfOk result (λ plugin. ⟦<Info as Plugin>⟧.stands_for plugin [] 0) }
-        ensures steady { IfOk result (λ plugin. ⟦<Info as Plugin>⟧.steady plugin ≡ None) }
+        ensures preallocated { IfOk result (λ plugin. ⟦<Info as Plugin>⟧.preallocated plugin ≡ None) }
         ensures whole { IfOk result (λ plugin. has_failed plugin ≡ false) }
         ensures reserved { IfOk result (λ plugin. room_of plugin ≡ buffer) }
     {
@@ -76,13 +76,13 @@ impl Plugin for Info {
     ghost use Rattle.plugin_trait.specs.Marks.{AllowsMark, GivesLines};
     ghost use Rattle.plugin_trait.specs.Steps.{HasRoom, Meets, MeetsCells, Tells, left_of};
     ghost use Rattle.plug_info.specs.InfoRule.{info_rule};
-    ghost use Rattle.plug_info.specs.InfoStands.{IsFull, MeetsHistory, conf_of, has_failed, room_of, steady_of};
+    ghost use Rattle.plug_info.specs.InfoStands.{IsFull, MeetsHistory, conf_of, has_failed, room_of, preallocated_of};
 
     ghost rule = { λ s. info_rule (conf_of s) };
 
     ghost stands_for = { λ s history mark. MeetsHistory s history mark };
 
-    ghost steady = { λ s. steady_of s };
+    ghost preallocated = { λ s. preallocated_of s };
 
     /// The clauses are those of `Plugin`, whose ghost members have no names here, and three more: a step that runs out
     /// of memory leaves the plugin failed, only a full buffer makes it fail, and the room for cells stays the same.
@@ -95,8 +95,8 @@ impl Plugin for Info {
             (left_of result packet.new labels.new) }
         ensures meets { Meets (MeetsHistory self.old) (MeetsHistory self.new) _at (Live packet.old labels.old) result }
         ensures same_rule { info_rule (conf_of self.new) ≡ info_rule (conf_of self.old) }
-        ensures same_steady { steady_of self.new ≡ steady_of self.old }
-        ensures room { HasRoom (steady_of self.old) (MeetsHistory self.old) _at → result ≢ Outcome.NoMemory }
+        ensures same_preallocated { preallocated_of self.new ≡ preallocated_of self.old }
+        ensures room { HasRoom (preallocated_of self.old) (MeetsHistory self.old) _at → result ≢ Outcome.NoMemory }
         ensures spent { result ≡ Outcome.NoMemory → has_failed self.new ≡ true }
         ensures full { has_failed self.old ≡ false → has_failed self.new ≡ true → IsFull self.old }
         ensures reserved { room_of self.new ≡ room_of self.old }
@@ -115,7 +115,7 @@ impl Plugin for Info {
         requires in_range { _at < POSITION_LIMIT }
         ensures meets { Meets (MeetsHistory self.old) (MeetsHistory self.new) _at Dropped Outcome.Pass }
         ensures same_rule { info_rule (conf_of self.new) ≡ info_rule (conf_of self.old) }
-        ensures same_steady { steady_of self.new ≡ steady_of self.old }
+        ensures same_preallocated { preallocated_of self.new ≡ preallocated_of self.old }
         ensures full { has_failed self.old ≡ false → has_failed self.new ≡ true → IsFull self.old }
         ensures reserved { room_of self.new ≡ room_of self.old }
     {
@@ -129,8 +129,8 @@ impl Plugin for Info {
         ensures gives { GivesLines (info_rule (conf_of self.old)) (MeetsHistory self.old) (MeetsHistory self.new) written
             _lines.old.items _lines.new.items result }
         ensures same_rule { info_rule (conf_of self.new) ≡ info_rule (conf_of self.old) }
-        ensures same_steady { steady_of self.new ≡ steady_of self.old }
-        ensures room { IsSome (steady_of self.old) → IsOk result }
+        ensures same_preallocated { preallocated_of self.new ≡ preallocated_of self.old }
+        ensures room { IsSome (preallocated_of self.old) → IsOk result }
         ensures spent { IsOk result → has_failed self.new ≡ has_failed self.old }
         ensures reserved { room_of self.new ≡ room_of self.old }
     {

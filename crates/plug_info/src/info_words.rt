@@ -1,12 +1,12 @@
 //! The options of `info`.
 ghost use Rattle.std.specs.Prelude.{◌≡◌, IfOk};
-ghost use Rattle.plug_info.specs.InfoSettings.{IsLawfulInfo};
+ghost use Rattle.plug_info.specs.InfoSettings.{IsValidInfo};
 ghost use Rattle.plug_info.specs.InfoWords.{info};
-ghost use Rattle.option_words.specs.Refusal.{ReadsParsed};
+ghost use Rattle.plugin_options.specs.Refusal.{ReadsParsed};
 
 use crate::info_conf::InfoConf;
-use option_words::{Beside, Need, OptionRow, OptionText, OptionWord, ParsedOptions, Refusal};
 use plugin_entry::{PluginHelp, PluginSettings};
+use plugin_options::{Beside, Need, OptionRow, OptionText, OptionWord, ParsedOptions, Refusal};
 use std::alloc::Global;
 
 // The options of `info`.
@@ -23,7 +23,7 @@ static INFO: [OptionRow; 1] = [OptionRow {
 // Reads the settings of `info` from the options that its command found.
 fn info_settings(_alloc: Global, found: &ParsedOptions) -> Result<InfoConf, Refusal>
     ensures reads { ReadsParsed info found.now result }
-    ensures lawful { IfOk result IsLawfulInfo }
+    ensures valid { IfOk result IsValidInfo }
 {
     Ok(InfoConf {
         json: found.has_flag("json"),

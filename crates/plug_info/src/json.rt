@@ -10,8 +10,8 @@ ghost use Rattle.ts_psi.specs.PsiTables.{component_item, pmt_held};
 ghost use Rattle.plugin_notes.specs.PidPackets.{numbers_below};
 ghost use Rattle.plugin_trait.specs.PlacedLines.{placed_at};
 ghost use Rattle.plug_psi.specs.InForce.{pat_of, pmt_of, services_in};
-ghost use Rattle.info_texts.specs.InfoJson;
-ghost use Rattle.info_texts.specs.InfoJson.{behind_comma};
+ghost use Rattle.plug_info_texts.specs.InfoJson;
+ghost use Rattle.plug_info_texts.specs.InfoJson.{after_comma};
 ghost use Rattle.plug_info.specs.InfoRule.{component_object, json_on, pid_objects, scene_of, service_object};
 ghost use Rattle.plug_info.specs.SdtInForce.{items_in, sdt_of};
 ghost use Rattle.plug_info.specs.CaSystems.{program_descriptors, system_ids};
@@ -29,10 +29,10 @@ use crate::summary::{
 };
 use crate::tracker::Tracker;
 use crate::users::{components_of, services_of, users_of};
-use info_texts::json_texts::{
+use plug_info_texts::json_texts::{
     component_head, component_tail, service_head, service_tail, stream_json,
 };
-use info_texts::{
+use plug_info_texts::{
     PidNumbers, Scene, array, marks_json, number_or_null, portion_json, push_item,
     service_marks_json, troubles_json, widened,
 };
@@ -95,7 +95,7 @@ fn push_services(
 ) -> Result<(), AllocError>
     ensures { OnOk result ((cells : List GivenCell) → Tracks tracker.now cells → scene.now ≡ scene_of cells
         → string_bytes items.new ≡ string_bytes items.old
-        ++ flat_map (λ s. behind_comma (service_object cells s)) (services_in (pat_of (live_packets cells)))) }
+        ++ flat_map (λ s. after_comma (service_object cells s)) (services_in (pat_of (live_packets cells)))) }
 {
     let entries = services_of(&tracker.force);
     for service in entries {
@@ -171,7 +171,7 @@ fn push_components(
 ) -> Result<(), AllocError>
     ensures { OnOk result ((cells : List GivenCell) → Tracks tracker.now cells → scene.now ≡ scene_of cells
         → string_bytes items.new ≡ string_bytes items.old
-        ++ flat_map (λ c. behind_comma (component_object cells (component_item c))) components.now) }
+        ++ flat_map (λ c. after_comma (component_object cells (component_item c))) components.now) }
 {
     for component in components {
         let text = component_json(alloc, tracker, scene, component)?;
@@ -230,7 +230,7 @@ fn push_pids(
 ) -> Result<(), AllocError>
     ensures { OnOk result ((cells : List GivenCell) → Tracks tracker.now cells → scene.now ≡ scene_of cells
         → string_bytes items.new ≡ string_bytes items.old
-        ++ flat_map (λ pid. flat_map behind_comma (pid_objects cells pid)) (numbers_below PID_COUNT)) }
+        ++ flat_map (λ pid. flat_map after_comma (pid_objects cells pid)) (numbers_below PID_COUNT)) }
 {
     let uses = uses_of(alloc, tracker)?;
     push_each_pid(alloc, items, tracker, &uses, scene)?;
@@ -248,7 +248,7 @@ fn push_each_pid(
     ensures { OnOk result ((cells : List GivenCell) → Tracks tracker.now cells → AreUses uses.now (live_packets cells)
         → scene.now ≡ scene_of cells
         → string_bytes items.new ≡ string_bytes items.old
-        ++ flat_map (λ pid. flat_map behind_comma (pid_objects cells pid)) (numbers_below PID_COUNT)) }
+        ++ flat_map (λ pid. flat_map after_comma (pid_objects cells pid)) (numbers_below PID_COUNT)) }
 {
     for pid in 0..PID_COUNT {
         push_pid(alloc, items, tracker, uses, scene, pid)?;
@@ -268,7 +268,7 @@ fn push_pid(
     requires on_pid { pid < PID_COUNT }
     ensures { OnOk result ((cells : List GivenCell) → Tracks tracker.now cells → AreUses uses.now (live_packets cells)
         → scene.now ≡ scene_of cells
-        → string_bytes items.new ≡ string_bytes items.old ++ flat_map behind_comma (pid_objects cells pid)) }
+        → string_bytes items.new ≡ string_bytes items.old ++ flat_map after_comma (pid_objects cells pid)) }
 {
     let Some(numbers) = numbers_shown(tracker, pid) else {
         return Ok(());

@@ -14,7 +14,7 @@ ghost use Rattle.plug_info.specs.PmtFields.{pcr_pid_in};
 
 use crate::ca_system::{CaSystem, add_systems};
 use crate::users::services_of;
-use info_texts::pid_name;
+use plug_info_texts::pid_name;
 use plug_psi::{InForce, number_and_pid};
 use std::alloc::{AllocError, Global};
 use ts_psi::{Cat, Component, Pat, PatService, Pmt};

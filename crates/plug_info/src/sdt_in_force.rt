@@ -1,7 +1,7 @@
 //! The SDT in force.
 ghost use Rattle.std.specs.Prelude.{◌≡◌, ℕ, IfOk, OnOk, option_map};
 ghost use Rattle.ts_si.specs.SiTables.{sdt_held};
-ghost use Rattle.plug_psi.specs.LastFound.{found_behind, newer};
+ghost use Rattle.plug_psi.specs.LastFound.{found_after, newer};
 ghost use Rattle.plug_info.specs.SdtInForce.{current_sdt, current_sdt_of};
 ghost use Rattle.plug_info.specs.SdtStands.{actual_one, kept_with, last_kept};
 
@@ -77,8 +77,8 @@ impl SdtInForce {
 
 // Keeps the tables that are current SDTs of the actual transport stream.
 fn keep_sdts(alloc: Global, kept: &mut KeptSdts, tables: &[TableRun]) -> Result<(), AllocError>
-    ensures each { OnOk result ((id : ℕ) → kept_with kept.new id ≡ found_behind (current_sdt_of id) (kept_with kept.old id) tables.now) }
-    ensures last { OnOk result (last_kept kept.new ≡ found_behind current_sdt (last_kept kept.old) tables.now) }
+    ensures each { OnOk result ((id : ℕ) → kept_with kept.new id ≡ found_after (current_sdt_of id) (kept_with kept.old id) tables.now) }
+    ensures last { OnOk result (last_kept kept.new ≡ found_after current_sdt (last_kept kept.old) tables.now) }
 {
     for table in tables {
         keep_sdt(alloc, kept, table)?;

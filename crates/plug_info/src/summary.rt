@@ -12,13 +12,13 @@ ghost use Rattle.plugin_notes.specs.PidPackets.{numbers_below};
 ghost use Rattle.plugin_trait.specs.PlacedLines.{placed_at};
 ghost use Rattle.plug_psi.specs.InForce.{pat_of, pmt_of, services_in};
 ghost use Rattle.plug_info.specs.InfoRule.{component_line, has_component, info_on, numbers_on, pcr_pid_in, pid_lines, scene_of, service_line, service_lines, service_packets, stream_id_in, stream_numbers, users_of};
-ghost use Rattle.info_texts.specs.InfoTexts.{pid_text, sdt_texts};
+ghost use Rattle.plug_info_texts.specs.InfoTexts.{pid_text, sdt_texts};
 ghost use Rattle.plug_info.specs.SdtInForce.{sdt_of};
 ghost use Rattle.plug_info.specs.CaSystems.{program_descriptors, system_ids};
 ghost use Rattle.plug_info.specs.SdtStatus.{service_status};
 ghost use Rattle.plug_info.specs.Tracked.{Tracks};
 ghost use Rattle.plug_info.specs.UsesOf.{AreUses};
-ghost use Rattle.info_texts.specs.InfoTexts;
+ghost use Rattle.plug_info_texts.specs.InfoTexts;
 ghost use Rattle.plugin_notes.specs.PidPackets.{packets_on};
 
 use crate::ca_system::system_ids;
@@ -28,10 +28,10 @@ use crate::service_status::{program_descriptors, service_status};
 use crate::service_texts::service_body;
 use crate::tracker::Tracker;
 use crate::users::{components_of, has_component, services_of, users_of};
-use info_texts::line_texts::{
+use plug_info_texts::line_texts::{
     component_head, component_tail, service_head, service_tail, stream_text,
 };
-use info_texts::{
+use plug_info_texts::{
     PidNumbers, Scene, StreamNumbers, marks_text, portion_text, service_marks_text, troubles_text,
 };
 use plug_psi::number_and_pid;

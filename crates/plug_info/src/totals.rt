@@ -1,7 +1,7 @@
 //! The counts of all packets, by PID and kind.
 ghost use Rattle.std.specs.Prelude.{◌≡◌, ◌<◌, ◌++◌, ◌∷◌, [], List, IfOk};
 
-use info_texts::PidNumbers;
+use plug_info_texts::PidNumbers;
 use plugin_notes::Tally;
 use std::alloc::{AllocError, Global};
 

@@ -14,8 +14,8 @@ use Rattle.ts_packet.specs.Cells.{live_packets, packet_in}
 use Rattle.ts_packet.specs.Header.{with_counter}
 use Rattle.chain_model.specs.Apply.{apply_after}
 use Rattle.ts_packetize.specs.Packets.{packets_of}
-use Rattle.plug_inject.specs.InjectRule.{Injection, has_packets, injected, injecting_rule, injection_of, is_replaced, kept_before, packet_behind, put_in_among, replaced_among, some_replaced}
-use Rattle.plug_inject.specs.InjectedPlaces.{injected_packets, places_behind, places_in}
+use Rattle.plug_inject.specs.InjectRule.{Injection, has_packets, injected, injecting_rule, injection_of, is_replaced, kept_before, packet_after, put_in_among, replaced_among, some_replaced}
+use Rattle.plug_inject.specs.InjectedPlaces.{injected_packets, places_after, places_in}
 use Rattle.plug_inject.specs.declared.inject_conf.InjectConf.{InjectConf}
 use Rattle.plug_inject.specs.declared.inject_conf.InjectMode.TheVariants.{InterPacket}
 use Rattle.plug_inject.specs.InjectState.{wait_among}
@@ -60,7 +60,7 @@ last-false true false c e = absurd cc
 last-false false b c e = absurd cc
 
 -- a cycle that has packets has one for each number
-cycle-some : (contents : List (List ℕ)) (k : ℕ) → has_packets contents ≡ true → packet_behind contents k ≡ Some (cycle_packet contents k)
+cycle-some : (contents : List (List ℕ)) (k : ℕ) → has_packets contents ≡ true → packet_after contents k ≡ Some (cycle_packet contents k)
 cycle-some [] k e = absurd cc
 cycle-some (packet ∷ packets) k e =
     let some : 0 < length (packet ∷ packets) = omega arith in
@@ -76,11 +76,11 @@ module _ (how : Injection) (older : List (List ℕ)) (packet : List ℕ) where
   put-packet e =
       let marks = replaced_among how older in
       let some = cycle-some how.contents (put_in_among marks) (left-true (has_packets how.contents) _ e) in
-      ap (λ (b : Bool). if b then unwrap_or (packet_behind how.contents (put_in_among marks)) packet else packet) e
+      ap (λ (b : Bool). if b then unwrap_or (packet_after how.contents (put_in_among marks)) packet else packet) e
       ∙ ap (λ o. unwrap_or o packet) some
 
   kept-packet : is_replaced how (replaced_among how older) packet ≡ false → injected how older packet ≡ packet
-  kept-packet e = ap (λ (b : Bool). if b then unwrap_or (packet_behind how.contents (put_in_among (replaced_among how older))) packet else packet) e
+  kept-packet e = ap (λ (b : Bool). if b then unwrap_or (packet_after how.contents (put_in_among (replaced_among how older))) packet else packet) e
 
   count-more : put_in_among (replaced_among how (packet ∷ older)) ≡ (if is_replaced how (replaced_among how older) packet then 1 else 0) + put_in_among (replaced_among how older)
   unfolding replaced_among
@@ -163,43 +163,43 @@ apart-front false start least places first rest j k less lt = rest j k less lt
 
 -- the same for any packets after others
 module _ (how : Injection) where
-  put-at : (older packets : List (List ℕ)) (k : ℕ) → k < length (places_behind how older packets)
-      → PutAt (places_behind how older packets) (made how older packets) how.contents (length older) (put_in_among (replaced_among how older)) k
+  put-at : (older packets : List (List ℕ)) (k : ℕ) → k < length (places_after how older packets)
+      → PutAt (places_after how older packets) (made how older packets) how.contents (length older) (put_in_among (replaced_among how older)) k
   put-at older [] k lt = absurd (omega arith)
   put-at older (packet ∷ packets) k lt =
       put-front (is_replaced how (replaced_among how older) packet) (length older) (put_in_among (replaced_among how older))
-      (put_in_among (replaced_among how (packet ∷ older))) (places_behind how (packet ∷ older) packets)
+      (put_in_among (replaced_among how (packet ∷ older))) (places_after how (packet ∷ older) packets)
       (injected how older packet) (made how (packet ∷ older) packets) how.contents
       (put-packet how older packet) (count-more how older packet) (put-at (packet ∷ older) packets) k lt
 
-  others-stay : (older packets : List (List ℕ)) (i : ℕ) → ((k : ℕ) → k < length (places_behind how older packets) → slice_index (places_behind how older packets) k ≢ length older + i)
+  others-stay : (older packets : List (List ℕ)) (i : ℕ) → ((k : ℕ) → k < length (places_after how older packets) → slice_index (places_after how older packets) k ≢ length older + i)
       → slice_get (made how older packets) i ≡ slice_get packets i
   others-stay older [] i others = refl
   others-stay older (packet ∷ packets) i others =
-      other-front (is_replaced how (replaced_among how older) packet) (length older) (places_behind how (packet ∷ older) packets)
+      other-front (is_replaced how (replaced_among how older) packet) (length older) (places_after how (packet ∷ older) packets)
       (injected how older packet) packet (made how (packet ∷ older) packets) packets
       (kept-packet how older packet) (others-stay (packet ∷ older) packets) i others
 
-  all-far : (older packets : List (List ℕ)) (k : ℕ) → k < length (places_behind how older packets)
-      → length older + wait_among how.kept (replaced_among how older) ≤ slice_index (places_behind how older packets) k
+  all-far : (older packets : List (List ℕ)) (k : ℕ) → k < length (places_after how older packets)
+      → length older + wait_among how.kept (replaced_among how older) ≤ slice_index (places_after how older packets) k
   all-far older [] k lt = absurd (omega arith)
   all-far older (packet ∷ packets) k lt =
       far-front (is_replaced how (replaced_among how older) packet) (length older) (wait_among how.kept (replaced_among how older))
-      (wait_among how.kept (replaced_among how (packet ∷ older))) (places_behind how (packet ∷ older) packets)
+      (wait_among how.kept (replaced_among how (packet ∷ older))) (places_after how (packet ∷ older) packets)
       (wait-free how older packet) (wait-kept how older packet) (all-far (packet ∷ older) packets) k lt
 
   next-far : (older packets : List (List ℕ)) (packet : List ℕ) → is_replaced how (replaced_among how older) packet ≡ true
-      → (k : ℕ) → k < length (places_behind how (packet ∷ older) packets) → length older + suc how.kept ≤ slice_index (places_behind how (packet ∷ older) packets) k
+      → (k : ℕ) → k < length (places_after how (packet ∷ older) packets) → length older + suc how.kept ≤ slice_index (places_after how (packet ∷ older) packets) k
   next-far older packets packet e k lt =
       let waits : wait_among how.kept (replaced_among how (packet ∷ older)) ≡ how.kept = wait-put how older packet e in
-      let far : length (packet ∷ older) + wait_among how.kept (replaced_among how (packet ∷ older)) ≤ slice_index (places_behind how (packet ∷ older) packets) k = all-far (packet ∷ older) packets k lt in
+      let far : length (packet ∷ older) + wait_among how.kept (replaced_among how (packet ∷ older)) ≤ slice_index (places_after how (packet ∷ older) packets) k = all-far (packet ∷ older) packets k lt in
       omega arith
 
-  all-apart : (older packets : List (List ℕ)) (j k : ℕ) → j < k → k < length (places_behind how older packets)
-      → slice_index (places_behind how older packets) j + suc how.kept ≤ slice_index (places_behind how older packets) k
+  all-apart : (older packets : List (List ℕ)) (j k : ℕ) → j < k → k < length (places_after how older packets)
+      → slice_index (places_after how older packets) j + suc how.kept ≤ slice_index (places_after how older packets) k
   all-apart older [] j k less lt = absurd (omega arith)
   all-apart older (packet ∷ packets) j k less lt =
-      apart-front (is_replaced how (replaced_among how older) packet) (length older) (suc how.kept) (places_behind how (packet ∷ older) packets)
+      apart-front (is_replaced how (replaced_among how older) packet) (length older) (suc how.kept) (places_after how (packet ∷ older) packets)
       (next-far older packets packet) (all-apart (packet ∷ older) packets) j k less lt
 
 none-before : (how : Injection) → put_in_among (replaced_among how []) ≡ 0

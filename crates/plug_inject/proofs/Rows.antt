@@ -1,13 +1,13 @@
 -- Worked rows of `inject`, computed on the definitions. Packets of four bytes are enough here.
 use Rattle.std.proofs.Common.{◌≡◌, ℕ, List, [], ◌∷◌, replicate, None, refl}
-use Rattle.bit_rows.specs.BitRow.{bit_of, field}
+use Rattle.ts_bit_rows.specs.BitRow.{bit_of, field}
 use Rattle.ts_packet.specs.Cells.{Live, Dropped, live_packets}
 use Rattle.ts_packet.specs.Header.{with_counter}
 use Rattle.ts_packetize.specs.Packets.{packets_of}
 use Rattle.ts_packetize.specs.Packing.{pack}
 use Rattle.chain_model.specs.Apply.{apply}
 use Rattle.plug_inject.specs.InjectRule.{Injection, inject_rule, injecting_rule, kept_before, replaced_among, target_of}
-use Rattle.plug_inject.specs.InjectedPlaces.{places_behind}
+use Rattle.plug_inject.specs.InjectedPlaces.{places_after}
 use Rattle.plug_inject.specs.declared.inject_conf.InjectMode.{InjectMode}
 use Rattle.plug_inject.specs.declared.inject_conf.InjectMode.TheVariants.{Replace, InterPacket}
 
@@ -39,7 +39,7 @@ each-third : apply (injecting_rule (how (InterPacket 3) (table 0x10 ∷ [])))
 unfolding field bit_of with_counter replaced_among
 each-third = refl
 
-each-third_places : places_behind (how (InterPacket 3) (table 0x10 ∷ [])) [] (replicate 7 null) ≡ 0 ∷ 3 ∷ 6 ∷ []
+each-third_places : places_after (how (InterPacket 3) (table 0x10 ∷ [])) [] (replicate 7 null) ≡ 0 ∷ 3 ∷ 6 ∷ []
 unfolding field bit_of replaced_among
 each-third_places = refl
 
@@ -64,7 +64,7 @@ unfolding field bit_of with_counter replaced_among
 on-pid = refl
 
 -- the numbers are those of live packets only
-on-pid_places : places_behind (how Replace (table 0x1F ∷ [])) [] (live_packets (Dropped ∷ Live on_257 0 ∷ Dropped ∷ Live (table 0x15) 0 ∷ Live (second 0x15) 0 ∷ [])) ≡ 1 ∷ 2 ∷ []
+on-pid_places : places_after (how Replace (table 0x1F ∷ [])) [] (live_packets (Dropped ∷ Live on_257 0 ∷ Dropped ∷ Live (table 0x15) 0 ∷ Live (second 0x15) 0 ∷ [])) ≡ 1 ∷ 2 ∷ []
 unfolding field bit_of replaced_among
 on-pid_places = refl
 

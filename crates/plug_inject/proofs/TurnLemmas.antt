@@ -4,7 +4,7 @@ use Rattle.std.specs.Prelude.{if◌then◌else◌, nat_lt, unwrap_or}
 use Rattle.std.proofs.lemmas.Bool.{eq-eqb, lt-ltb, ne_eqb}
 use Rattle.std.proofs.lemmas.List.Sums.{sum_by-cons}
 use Rattle.ts_packet.specs.Header.{pid_of}
-use Rattle.plug_inject.specs.InjectRule.{Injection, has_packets, injected, is_replaced, packet_behind, put_in_among, replaced_among, some_replaced}
+use Rattle.plug_inject.specs.InjectRule.{Injection, has_packets, injected, is_replaced, packet_after, put_in_among, replaced_among, some_replaced}
 use Rattle.plug_inject.specs.InjectState.{Counts, Stands, wait_among}
 
 -- one packet fewer has to pass
@@ -66,7 +66,7 @@ module _ {how : Injection} {put_in wait : ℕ} {older : List (List ℕ)} (counts
 
   -- a packet that is not replaced
   pub passed : is_replaced how (replaced_among how older) packet ≡ false → packet ≡ injected how older packet
-  passed e = sym (ap (λ b. if b then unwrap_or (packet_behind how.contents (put_in_among (replaced_among how older))) packet else packet) e)
+  passed e = sym (ap (λ b. if b then unwrap_or (packet_after how.contents (put_in_among (replaced_among how older))) packet else packet) e)
 
   pub passed_counts : is_replaced how (replaced_among how older) packet ≡ false → (left : ℕ) → left ≡ wait - 1 → Counts how put_in left (packet ∷ older)
   unfolding replaced_among wait_among
@@ -79,10 +79,10 @@ module _ {how : Injection} {put_in wait : ℕ} {older : List (List ℕ)} (counts
       }
 
   -- a packet that is replaced
-  pub put : is_replaced how (replaced_among how older) packet ≡ true → (next : List ℕ) → Some next ≡ packet_behind how.contents put_in → next ≡ injected how older packet
+  pub put : is_replaced how (replaced_among how older) packet ≡ true → (next : List ℕ) → Some next ≡ packet_after how.contents put_in → next ≡ injected how older packet
   put e next is =
-      sym (ap (λ b. if b then unwrap_or (packet_behind how.contents (put_in_among (replaced_among how older))) packet else packet) e
-      ∙ ap (λ n. unwrap_or (packet_behind how.contents n) packet) (sym counts.number) ∙ ap (λ o. unwrap_or o packet) (sym is))
+      sym (ap (λ b. if b then unwrap_or (packet_after how.contents (put_in_among (replaced_among how older))) packet else packet) e
+      ∙ ap (λ n. unwrap_or (packet_after how.contents n) packet) (sym counts.number) ∙ ap (λ o. unwrap_or o packet) (sym is))
 
   pub put_counts : is_replaced how (replaced_among how older) packet ≡ true → Counts how (put_in + 1) how.kept (packet ∷ older)
   unfolding replaced_among wait_among

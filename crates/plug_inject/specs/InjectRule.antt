@@ -69,14 +69,14 @@ put_in_among marks = count_by (λ mark. mark) marks
 
 -- the packet that is inserted after so many others: the one at its place of the cycle, which is repeated, with their
 -- number, modulo 16, as its continuity counter
-abbrev pub packet_behind : List (List ℕ) → ℕ → Option (List ℕ)
-packet_behind contents before =
+abbrev pub packet_after : List (List ℕ) → ℕ → Option (List ℕ)
+packet_after contents before =
     option_map (λ packet. with_counter packet (before % 16)) (slice_get contents (before % length contents))
 
 -- the output in the place of a packet, given of the packets before it whether they were replaced
 abbrev pub put_for : Injection → List Bool → List ℕ → List ℕ
 put_for how marks packet =
-    if is_replaced how marks packet then unwrap_or (packet_behind how.contents (put_in_among marks)) packet else packet
+    if is_replaced how marks packet then unwrap_or (packet_after how.contents (put_in_among marks)) packet else packet
 
 -- the output in the place of a packet, given the packets before it
 abbrev pub injected : Injection → List (List ℕ) → List ℕ → List ℕ

@@ -1,7 +1,7 @@
 -- Valid settings of `inject`. ISO/IEC 13818-1, 2.4.3.2: PID 8191 is that of null packets, which carry no data. This
 -- project's own rule: a distance is at least 1.
 use Rattle.std.specs.Prelude.{ℕ, ◌<◌, ◌≤◌, Option, None, Some}
-use Rattle.plug_conf.specs.declared.limits.TheConstants.{MOST_NUMBER}
+use Rattle.plugin_options.specs.declared.limits.TheConstants.{MOST_NUMBER}
 use Rattle.ts_packet.specs.declared.numbers.TheConstants.{NULL_PID}
 use Rattle.plug_inject.specs.declared.inject_conf.InjectConf.{InjectConf}
 use Rattle.plug_inject.specs.declared.inject_conf.InjectMode.{InjectMode}
@@ -13,11 +13,11 @@ mode_of None = Replace
 mode_of (Some distance) = InterPacket distance
 
 -- a distance is from 1 to 2^60
-abbrev pub IsLawfulMode : InjectMode → Type 0
-IsLawfulMode Replace = Unit {0}
-IsLawfulMode (InterPacket distance) = (1 ≤ distance) × (distance ≤ MOST_NUMBER)
+abbrev pub IsValidMode : InjectMode → Type 0
+IsValidMode Replace = Unit {0}
+IsValidMode (InterPacket distance) = (1 ≤ distance) × (distance ≤ MOST_NUMBER)
 
 -- the PID may carry sections, and a distance is in its range
-pub record IsLawfulInject (c : InjectConf) : Type 0 where
+pub record IsValidInject (c : InjectConf) : Type 0 where
   pub carrier : c.pid < NULL_PID
-  pub mode : IsLawfulMode c.mode
+  pub mode : IsValidMode c.mode

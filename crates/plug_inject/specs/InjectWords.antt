@@ -1,11 +1,11 @@
 -- The options of `inject`. This project's own rule.
 use Rattle.std.specs.Prelude.{List, [], ◌∷◌, ◌&&◌, ◌||◌, not, codes, unwrap_or}
 use Rattle.clap.specs.Walk.{Row}
-use Rattle.option_words.specs.Forms.{number, text}
-use Rattle.option_words.specs.Number.{number_within}
-use Rattle.option_words.specs.Options.{OptionRow, flag, has_flag, has_value, operand, read_value, value, value_of}
-use Rattle.option_words.specs.OptionTable.{OptionTable}
-use Rattle.plug_conf.specs.declared.limits.TheConstants.{MOST_NUMBER}
+use Rattle.plugin_options.specs.Forms.{number, text}
+use Rattle.plugin_options.specs.Number.{number_within}
+use Rattle.plugin_options.specs.Options.{OptionRow, flag, has_flag, has_value, operand, read_value, value, value_of}
+use Rattle.plugin_options.specs.OptionTable.{OptionTable}
+use Rattle.plugin_options.specs.declared.limits.TheConstants.{MOST_NUMBER}
 use Rattle.plug_inject.specs.InjectSettings.{mode_of}
 use Rattle.plug_inject.specs.declared.inject_conf.InjectConf.{InjectConf}
 use Rattle.plug_inject.specs.declared.inject_conf.TheConstants.{LAST_CARRIER}

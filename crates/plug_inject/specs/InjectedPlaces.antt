@@ -8,16 +8,16 @@ use Rattle.plug_inject.specs.InjectRule.{Injection, inject_rule, injection_of, i
 use Rattle.plug_inject.specs.declared.inject_conf.InjectConf.{InjectConf}
 
 -- the numbers of the replaced packets among those after others, of which the newest stands first
-abbrev pub places_behind : Injection → List (List ℕ) → List (List ℕ) → List ℕ
-places_behind how older [] = []
-places_behind how older (packet ∷ packets) =
+abbrev pub places_after : Injection → List (List ℕ) → List (List ℕ) → List ℕ
+places_after how older [] = []
+places_after how older (packet ∷ packets) =
     if is_replaced how (replaced_among how older) packet
-    then length older ∷ places_behind how (packet ∷ older) packets
-    else places_behind how (packet ∷ older) packets
+    then length older ∷ places_after how (packet ∷ older) packets
+    else places_after how (packet ∷ older) packets
 
 -- the numbers of the replaced packets in a list of cells
 abbrev pub places_in : InjectConf → List (List ℕ) → List Cell → List ℕ
-places_in conf sections cells = places_behind (injection_of conf sections) [] (live_packets cells)
+places_in conf sections cells = places_after (injection_of conf sections) [] (live_packets cells)
 
 -- the output packets of the plugin for a list of cells
 abbrev pub injected_packets : InjectConf → List (List ℕ) → List Cell → List (List ℕ)

@@ -1,7 +1,7 @@
 //! The plugin `inject`.
 ghost use Rattle.std.specs.Prelude.{◌≡◌, ◌<◌, ◌^◌, ◌∷◌, ℕ, List, [], None, IfOk, is_some};
-ghost use Rattle.plug_inject.specs.InjectRule.{inject_rule, injected, is_replaced, replaced_among, has_packets, packet_behind};
-ghost use Rattle.plug_inject.specs.InjectSettings.{IsLawfulInject};
+ghost use Rattle.plug_inject.specs.InjectRule.{inject_rule, injected, is_replaced, replaced_among, has_packets, packet_after};
+ghost use Rattle.plug_inject.specs.InjectSettings.{IsValidInject};
 ghost use Rattle.plug_inject.specs.InjectState.{Counts, how_of};
 
 use crate::inject_conf::{InjectConf, InjectMode};
@@ -37,10 +37,10 @@ pub fn new_inject(
     conf: &InjectConf,
     sections: Vec<Section>,
 ) -> Result<Inject, AllocError>
-    requires { IsLawfulInject conf.now }
+    requires { IsValidInject conf.now }
     ensures rule { IfOk result (λ plugin. ⟦<Inject as Plugin>⟧.rule plugin ≡ inject_rule conf.now sections.items) }
     ensures fresh { IfOk result (λ plugin. ⟦<Inject as Plugin>⟧.stands_for plugin [] 0) }
-    ensures steady { IfOk result (λ plugin. ⟦<Inject as Plugin>⟧.steady plugin ≡ None) }
+    ensures preallocated { IfOk result (λ plugin. ⟦<Inject as Plugin>⟧.preallocated plugin ≡ None) }
 {
     let pid = conf.pid as u16;
     let contents = packets(alloc, pid, sections.as_slice())?;
@@ -77,7 +77,7 @@ impl InjectSteps {
 
     /// The packet that is inserted next, if the cycle has packets.
     fn next_packet(&self) -> Option<Packet>
-        ensures next { result ≡ packet_behind self.now.contents self.now.put_in }
+        ensures next { result ≡ packet_after self.now.contents self.now.put_in }
         ensures some { is_some result ≡ has_packets self.now.contents }
     {
         let packets = self.contents.as_slice();
@@ -133,7 +133,7 @@ impl Steps for InjectSteps {
 
     ghost stands_for = { λ s history. Meant s history };
 
-    ghost steady = { λ s. None };
+    ghost preallocated = { λ s. None };
 
     /// The clauses of `Steps`, whose ghost members have no names here, and one more: no step returns `NoMemory`.
     #[inline]

@@ -1,15 +1,15 @@
 //! The options of `inject`.
 ghost use Rattle.std.specs.Prelude.{◌≡◌, IfOk};
-ghost use Rattle.option_words.specs.Refusal.{ReadsParsed};
-ghost use Rattle.plug_inject.specs.InjectSettings.{IsLawfulInject};
+ghost use Rattle.plugin_options.specs.Refusal.{ReadsParsed};
+ghost use Rattle.plug_inject.specs.InjectSettings.{IsValidInject};
 ghost use Rattle.plug_inject.specs.InjectWords.{inject};
 
 use crate::inject_conf::{InjectConf, InjectMode, LAST_CARRIER};
-use option_words::{
-    Beside, Need, OptionRow, OptionText, OptionWord, ParsedOptions, Refusal, Takes, WordsRule,
-};
-use plug_conf::MOST_NUMBER;
 use plugin_entry::{PluginHelp, PluginSettings};
+use plugin_options::{
+    Beside, MOST_NUMBER, Need, OptionRow, OptionText, OptionWord, ParsedOptions, Refusal, Takes,
+    WordsRule,
+};
 use std::alloc::Global;
 
 // The options of `inject`.
@@ -71,7 +71,7 @@ fn goes_together(found: &ParsedOptions) -> bool
 // Reads the settings of `inject` from the options that its command found.
 fn inject_settings(alloc: Global, found: &ParsedOptions) -> Result<InjectConf, Refusal>
     ensures reads { ReadsParsed inject found.now result }
-    ensures lawful { IfOk result IsLawfulInject }
+    ensures valid { IfOk result IsValidInject }
 {
     if !has_needed(found) {
         return Err(Refusal::Broken(WordsRule::Missing));

@@ -1,6 +1,6 @@
 -- Worked rows of `remap`, computed on the definitions. Packets of three bytes do as well as whole ones here.
 use Rattle.std.proofs.Common.{◌≡◌, ℕ, List, [], ◌∷◌, None, Some, true, false, refl}
-use Rattle.bit_rows.specs.BitRow.{bit_of, field}
+use Rattle.ts_bit_rows.specs.BitRow.{bit_of, field}
 use Rattle.ts_packet.specs.Cells.{Live, Dropped}
 use Rattle.ts_packet.specs.Header.{with_pid}
 use Rattle.chain_model.specs.declared.reason.Reason.TheVariants.{Pid}
@@ -12,7 +12,7 @@ use Rattle.plug_move.specs.MappedTables.{mapped_descriptor, mapped_pat, mapped_p
 use Rattle.ts_bits.specs.TaggedBody.{TaggedBody}
 use Rattle.ts_descr.specs.Descriptors.{read_typed}
 use Rattle.ts_fields.specs.Bits.{bits, number_of}
-use Rattle.ts_fields.specs.Bodies.{read_behind, read_page, spell_page}
+use Rattle.ts_fields.specs.Bodies.{read_after, read_page, spell_page}
 use Rattle.ts_fields.specs.Layout.{number}
 use Rattle.ts_fields.specs.Reading.{read_bytes, read_field, read_number, read_rest, read_rows}
 use Rattle.ts_fields.specs.Spelling.{spell_field, spell_rows}
@@ -136,10 +136,10 @@ descriptor tag body = record { tag = tag; body = body }
 
 -- a CA descriptor of the system 6144 keeps its private byte
 ca-mapped : mapped_descriptor pairs (descriptor 0x09 (0x18 ∷ 0x00 ∷ 0xE1 ∷ 0x00 ∷ 0xAA ∷ [])) ≡ descriptor 0x09 (0x18 ∷ 0x00 ∷ 0xE2 ∷ 0x00 ∷ 0xAA ∷ [])
-unfolding bits number_of read_number read_bytes read_rest read_field read_rows read_page read_behind read_typed spell_field spell_rows spell_page bytes_of
+unfolding bits number_of read_number read_bytes read_rest read_field read_rows read_page read_after read_typed spell_field spell_rows spell_page bytes_of
 ca-mapped = refl
 
 -- one whose reserved bits are not ones is none, and stays
 ca-outside : mapped_descriptor pairs (descriptor 0x09 (0x18 ∷ 0x00 ∷ 0x01 ∷ 0x00 ∷ [])) ≡ descriptor 0x09 (0x18 ∷ 0x00 ∷ 0x01 ∷ 0x00 ∷ [])
-unfolding bits number_of read_number read_bytes read_rest read_field read_rows read_page read_behind read_typed spell_field spell_rows spell_page bytes_of
+unfolding bits number_of read_number read_bytes read_rest read_field read_rows read_page read_after read_typed spell_field spell_rows spell_page bytes_of
 ca-outside = refl

@@ -2,7 +2,7 @@
 -- This project's own rule.
 use Rattle.std.specs.Prelude.{◌==◌, ◌<◌, ◌≤◌, ◌&&◌, ◌||◌, ℕ, Bool, IsTrue, List, [], ◌∷◌, length, nat_le, not, true}
 use Rattle.std.specs.List.{All, list_any}
-use Rattle.plug_conf.specs.declared.limits.TheConstants.{MOST_PAIRS}
+use Rattle.plugin_options.specs.declared.limits.TheConstants.{MOST_PAIRS}
 use Rattle.ts_packet.specs.declared.numbers.TheConstants.{NULL_PID, PID_COUNT}
 use Rattle.plug_move.specs.declared.remap_conf.RemapConf.{RemapConf}
 
@@ -36,7 +36,7 @@ abbrev pub IsPidPair : ℕ × ℕ → Type 0
 IsPidPair pair = (pair.0 < PID_COUNT) × (pair.1 < PID_COUNT)
 
 -- the settings give what `remap` needs, each number in its range, and no two that exclude each other
-pub record IsLawfulRemap (c : RemapConf) : Type 0 where
+pub record IsValidRemap (c : RemapConf) : Type 0 where
   pub some_pair : 1 ≤ length c.operand
   pub pids : All IsPidPair c.operand
   pub agree : IsTrue (pairs_agree c)

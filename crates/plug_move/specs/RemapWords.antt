@@ -4,11 +4,11 @@ use Rattle.std.specs.Prelude.{ℕ, ◌==◌, List, [], ◌∷◌, Option, codes,
 use Rattle.clap.specs.Walk.{Row}
 use Rattle.plug_move.specs.RemapSettings.{pairs_agree}
 use Rattle.plug_move.specs.declared.remap_conf.RemapConf.{RemapConf}
-use Rattle.plug_conf.specs.declared.limits.TheConstants.{LAST_PID}
-use Rattle.option_words.specs.Forms.{pair}
-use Rattle.option_words.specs.Options.{OptionRow, flag, has_flag, operands, values_of}
-use Rattle.option_words.specs.OptionTable.{OptionTable}
-use Rattle.option_words.specs.Pairs.{pair_of}
+use Rattle.plugin_options.specs.declared.limits.TheConstants.{LAST_PID}
+use Rattle.plugin_options.specs.Forms.{pair}
+use Rattle.plugin_options.specs.Options.{OptionRow, flag, has_flag, operands, values_of}
+use Rattle.plugin_options.specs.OptionTable.{OptionTable}
+use Rattle.plugin_options.specs.Pairs.{pair_of}
 
 -- the byte `=`
 abbrev pub equals_sign : ℕ

@@ -7,7 +7,7 @@ ghost use Rattle.plug_move.specs.MoveTables.{IsMoveTable, LeadsToPid, move_of};
 ghost use Rattle.plug_move.specs.Targets;
 ghost use Rattle.plug_move.specs.Targets.{target_of};
 
-use plug_conf::PairList;
+use plugin_options::PairList;
 use std::alloc::{AllocError, Global};
 use std::marker::Model;
 use ts_packet::{PID_COUNT, PidRow};

@@ -4,7 +4,7 @@ ghost use Rattle.std.specs.Prelude.{◌≡◌, ◌<◌, IfOk, [], None, Some, is
 ghost use Rattle.std.specs.Option.{ForSome};
 ghost use Rattle.ts_packet.specs.declared.numbers.TheConstants.{PID_COUNT};
 ghost use Rattle.plug_move.specs.RemapRule.{remap_rule};
-ghost use Rattle.plug_move.specs.RemapSettings.{IsLawfulRemap};
+ghost use Rattle.plug_move.specs.RemapSettings.{IsValidRemap};
 ghost use Rattle.plug_move.specs.RemapState.{GoesOn, MapperStands};
 
 use crate::move_table::{Move, MoveTable};
@@ -35,10 +35,10 @@ pub type Remap = Silent<RemapSteps>;
 /// A new plugin, which has processed no cell. It allocates its table of PIDs; its steps allocate nothing if tables are
 /// left as they are.
 pub fn new_remap(alloc: Global, conf: &RemapConf, buffer: usize) -> Result<Remap, AllocError>
-    requires { IsLawfulRemap conf.now }
+    requires { IsValidRemap conf.now }
     ensures rule { IfOk result (λ plugin. ⟦<Remap as Plugin>⟧.rule plugin ≡ remap_rule conf.now) }
     ensures fresh { IfOk result (λ plugin. ⟦<Remap as Plugin>⟧.stands_for plugin [] 0) }
-    ensures steady { IfOk result (λ plugin. ⟦<Remap as Plugin>⟧.steady plugin
+    ensures preallocated { IfOk result (λ plugin. ⟦<Remap as Plugin>⟧.preallocated plugin
         ≡ (if conf.now.no_psi then Some buffer else None)) }
 {
     let steps = RemapSteps {
@@ -74,7 +74,7 @@ impl Steps for RemapSteps {
 
     ghost stands_for = { λ s history. MeetsHistory s history };
 
-    ghost steady = { λ s. room_of s.tables s.buffer };
+    ghost preallocated = { λ s. room_of s.tables s.buffer };
 
     #[inline]
     fn step(&mut self, at: u64, packet: &mut Packet, _labels: &mut Labels) -> Outcome {
@@ -103,7 +103,7 @@ impl Steps for RemapSteps {
 
 /// The mapper that edits tables; `None` if they are left as they are.
 fn tables_of(alloc: Global, conf: &RemapConf) -> Result<Option<TableMapper>, AllocError>
-    requires { IsLawfulRemap conf.now }
+    requires { IsValidRemap conf.now }
     ensures none { IfOk result (λ tables. is_none tables ≡ conf.now.no_psi) }
     ensures fresh { IfOk result (λ tables. MapperStands conf.now.operand tables []) }
 {

@@ -3,7 +3,7 @@
 ghost use Rattle.std.specs.Prelude.{◌≡◌};
 ghost use Rattle.plug_move.specs.RemapSettings.{is_source, is_target, pairs_agree, sources_differ, targets_differ};
 
-use plug_conf::{MOST_PAIRS, PairList};
+use plugin_options::{MOST_PAIRS, PairList};
 use ts_packet::NULL_PID;
 
 /// Settings of `remap`, which gives packets other PIDs.

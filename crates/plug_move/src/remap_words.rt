@@ -1,16 +1,16 @@
 //! The options of `remap`, and its settings from their values.
 
 ghost use Rattle.std.specs.Prelude.{◌≡◌, IfOk};
-ghost use Rattle.plug_move.specs.RemapSettings.{IsLawfulRemap};
+ghost use Rattle.plug_move.specs.RemapSettings.{IsValidRemap};
 ghost use Rattle.plug_move.specs.RemapWords.{remap};
-ghost use Rattle.option_words.specs.Refusal.{ReadsParsed};
+ghost use Rattle.plugin_options.specs.Refusal.{ReadsParsed};
 
 use crate::remap_conf::RemapConf;
-use option_words::{
-    Beside, Need, OptionRow, OptionText, OptionWord, ParsedOptions, Refusal, Sign, Takes, WordsRule,
-};
-use plug_conf::LAST_PID;
 use plugin_entry::{PluginHelp, PluginSettings};
+use plugin_options::{
+    Beside, LAST_PID, Need, OptionRow, OptionText, OptionWord, ParsedOptions, Refusal, Sign, Takes,
+    WordsRule,
+};
 use std::alloc::Global;
 
 // The options of `remap`.
@@ -50,7 +50,7 @@ static REMAP: [OptionRow; 3] = [
 // Reads the settings of `remap` from what its command found in the words.
 fn remap_settings(alloc: Global, found: &ParsedOptions) -> Result<RemapConf, Refusal>
     ensures reads { ReadsParsed remap found.now result }
-    ensures lawful { IfOk result IsLawfulRemap }
+    ensures valid { IfOk result IsValidRemap }
 {
     if !found.has_values("operand") {
         return Err(Refusal::Broken(WordsRule::Missing));

@@ -15,10 +15,10 @@ ghost use Rattle.plug_move.specs.Targets.{target_of};
 
 use crate::move_table::MoveTable;
 use crate::pid_edit::PidsOnTables;
-use plug_conf::PairList;
 use plug_psi::{
     ByPid, Changes, CycleEditor, FailureLatch, Given, InForce, unfollowed_packets_change_nothing,
 };
+use plugin_options::PairList;
 use std::alloc::{AllocError, Global};
 use std::sync::Arc;
 use ts_demux::PidTables;

@@ -1,7 +1,7 @@
 -- Worked rows of the rules, computed on the definitions. Packets have four bytes here, but those of `pattern`
 -- are whole.
 use Rattle.std.proofs.Common.{◌≡◌, ℕ, List, [], ◌∷◌, ◌++◌, replicate, None, Some, true, false, refl, lit≤}
-use Rattle.bit_rows.specs.BitRow.{bit_of, field}
+use Rattle.ts_bit_rows.specs.BitRow.{bit_of, field}
 use Rattle.ts_packet.specs.declared.cell.Cell.{Cell}
 use Rattle.ts_packet.specs.Cells.{Live, Dropped}
 use Rattle.ts_packet.specs.Packet.{null_packet}
@@ -9,7 +9,7 @@ use Rattle.ts_packet.specs.Adaptation.{adaptation_length_of}
 use Rattle.ts_packet.specs.Payload.{payload_start_of}
 use Rattle.ts_packet.specs.Pcr.{pcr_of, has_pcr_of, clock_of}
 use Rattle.chain_model.specs.Apply.{apply, stopped}
-use Rattle.plug_conf.specs.LabelSet.{label_set}
+use Rattle.plugin_options.specs.LabelSet.{label_set}
 use Rattle.plug_pass.specs.declared.filter_conf.FilterConf.{FilterConf}
 use Rattle.plug_pass.specs.declared.pattern_conf.PatternConf.{PatternConf}
 use Rattle.plug_pass.specs.declared.slice_conf.SliceConf.{SliceConf}
@@ -17,7 +17,7 @@ use Rattle.plug_pass.specs.FilterRule.{filter_rule}
 use Rattle.plug_pass.specs.PatternRule.{pattern_rule, repeated}
 use Rattle.plug_pass.specs.SkipRule.{skip_rule}
 use Rattle.plug_pass.specs.SliceRule.{slice_rule}
-use Rattle.plug_pass.specs.SkipSettings.{IsLawfulSkip}
+use Rattle.plug_pass.specs.SkipSettings.{IsValidSkip}
 use Rattle.plug_pass.specs.SliceSettings.{slices_differ}
 
 -- a packet on PID 256, one on PID 257 with its unit start indicator, and a scrambled one on PID 258
@@ -126,5 +126,5 @@ same-numbers : slices_differ (record { drop = Some 1; null = None; pass = Some 1
 same-numbers = refl
 
 -- `skip` takes 2^40 packets
-most-skipped : IsLawfulSkip (record { operand = 1099511627776 })
+most-skipped : IsValidSkip (record { operand = 1099511627776 })
 most-skipped = record { bounded = lit≤ tt }

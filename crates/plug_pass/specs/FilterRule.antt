@@ -3,11 +3,11 @@ use Rattle.std.specs.Prelude.{ℕ, List, Bool, None, not, is_some, ◌==◌, ◌
 use Rattle.ts_packet.specs.Labels.{joined, shares_label}
 use Rattle.ts_packet.specs.Header.{pid_of, unit_start_of, scrambling_of}
 use Rattle.ts_packet.specs.Pcr.{pcr_of}
-use Rattle.plugin_trait.specs.Fates.{fate}
+use Rattle.plugin_trait.specs.Actions.{action}
 use Rattle.plugin_trait.specs.SilentRule.{silent_rule_with}
 use Rattle.chain_model.specs.PluginRule.{PluginRule, RuleOutcome, passes}
-use Rattle.plug_conf.specs.LabelSet.{label_set}
-use Rattle.plug_conf.specs.NumberSet.{has_number}
+use Rattle.plugin_options.specs.LabelSet.{label_set}
+use Rattle.plugin_options.specs.NumberSet.{has_number}
 use Rattle.plug_pass.specs.declared.filter_conf.FilterConf.{FilterConf}
 use Rattle.plug_pass.specs.FilterSettings.{sets_labels}
 
@@ -29,7 +29,7 @@ selects conf packet labels =
 abbrev pub filtered : FilterConf → List ℕ → ℕ → RuleOutcome
 filtered conf packet labels =
     if sets_labels conf then passes packet
-    else if selects conf packet labels then passes packet else fate conf.stuffing None
+    else if selects conf packet labels then passes packet else action conf.stuffing None
 
 -- the labels of a packet then: where labels are set, a selected one has these besides its own
 abbrev pub labelled : FilterConf → List ℕ → ℕ → ℕ

@@ -3,7 +3,7 @@
 use Rattle.std.specs.Prelude.{◌==◌, ◌||◌, ◌&&◌, Bool, IsTrue, length, not}
 use Rattle.ts_packet.specs.declared.labels.TheConstants.{LABEL_COUNT}
 use Rattle.ts_packet.specs.declared.numbers.TheConstants.{PID_COUNT}
-use Rattle.plug_conf.specs.NumberSet.{AllBelow}
+use Rattle.plugin_options.specs.NumberSet.{AllBelow}
 use Rattle.plug_pass.specs.declared.filter_conf.FilterConf.{FilterConf}
 
 -- one of the five conditions is given
@@ -20,7 +20,7 @@ abbrev pub filter_together : FilterConf → Bool
 filter_together c = not (sets_labels c && c.stuffing)
 
 -- the settings give what `filter` needs, each number in its range, and no two that exclude each other
-pub record IsLawfulFilter (c : FilterConf) : Type 0 where
+pub record IsValidFilter (c : FilterConf) : Type 0 where
   pub pids : AllBelow PID_COUNT c.pid
   pub labels : AllBelow LABEL_COUNT c.label
   pub labels_set : AllBelow LABEL_COUNT c.set_label

@@ -4,11 +4,11 @@ use Rattle.std.specs.Prelude.{ℕ, ◌||◌, List, [], ◌∷◌, ◌++◌, code
 use Rattle.clap.specs.Walk.{Row}
 use Rattle.plug_pass.specs.FilterSettings.{filter_together}
 use Rattle.plug_pass.specs.declared.filter_conf.FilterConf.{FilterConf}
-use Rattle.plug_conf.specs.declared.limits.TheConstants.{LAST_LABEL, LAST_PID}
-use Rattle.option_words.specs.Forms.{ranges}
-use Rattle.option_words.specs.Options.{OptionRow, flag, has_flag, has_value, read_value, value}
-use Rattle.option_words.specs.OptionTable.{OptionTable}
-use Rattle.option_words.specs.Ranges.{ranges_of}
+use Rattle.plugin_options.specs.declared.limits.TheConstants.{LAST_LABEL, LAST_PID}
+use Rattle.plugin_options.specs.Forms.{ranges}
+use Rattle.plugin_options.specs.Options.{OptionRow, flag, has_flag, has_value, read_value, value}
+use Rattle.plugin_options.specs.OptionTable.{OptionTable}
+use Rattle.plugin_options.specs.Ranges.{ranges_of}
 
 -- the options that are conditions
 abbrev pub condition_rows : List OptionRow

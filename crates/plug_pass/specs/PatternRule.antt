@@ -5,7 +5,7 @@ use Rattle.ts_packet.specs.Header.{pid_of, unit_start_of}
 use Rattle.ts_packet.specs.Payload.{payload_start_of, with_piece}
 use Rattle.plugin_trait.specs.SilentRule.{silent_rule}
 use Rattle.chain_model.specs.PluginRule.{PluginRule, passes}
-use Rattle.plug_conf.specs.Selection.{is_selected}
+use Rattle.plugin_options.specs.Selection.{is_selected}
 use Rattle.plug_pass.specs.declared.pattern_conf.PatternConf.{PatternConf}
 
 -- so many bytes of the pattern, which begins again after its last byte

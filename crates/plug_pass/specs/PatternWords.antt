@@ -3,13 +3,13 @@
 use Rattle.std.specs.Prelude.{List, [], ◌∷◌, codes, true, unwrap_or}
 use Rattle.plug_pass.specs.declared.pattern_conf.PatternConf.{PatternConf}
 use Rattle.ts_packet.specs.declared.numbers.TheConstants.{PAYLOAD_SIZE}
-use Rattle.plug_conf.specs.declared.limits.TheConstants.{LAST_OFFSET, LAST_PID}
-use Rattle.option_words.specs.Forms.{bytes, number, ranges}
-use Rattle.option_words.specs.Options.{OptionRow, flag, has_flag, has_value, operand, read_value, value}
-use Rattle.option_words.specs.OptionTable.{OptionTable}
-use Rattle.option_words.specs.HexText.{bytes_of}
-use Rattle.option_words.specs.Number.{number_within}
-use Rattle.option_words.specs.Ranges.{ranges_of}
+use Rattle.plugin_options.specs.declared.limits.TheConstants.{LAST_OFFSET, LAST_PID}
+use Rattle.plugin_options.specs.Forms.{bytes, number, ranges}
+use Rattle.plugin_options.specs.Options.{OptionRow, flag, has_flag, has_value, operand, read_value, value}
+use Rattle.plugin_options.specs.OptionTable.{OptionTable}
+use Rattle.plugin_options.specs.HexText.{bytes_of}
+use Rattle.plugin_options.specs.Number.{number_within}
+use Rattle.plugin_options.specs.Ranges.{ranges_of}
 
 -- the options
 abbrev pub pattern_rows : List OptionRow

@@ -2,11 +2,11 @@
 -- This project's own rule.
 use Rattle.std.specs.Prelude.{List, [], ◌∷◌, codes, true, unwrap_or}
 use Rattle.plug_pass.specs.declared.skip_conf.SkipConf.{SkipConf}
-use Rattle.plug_conf.specs.declared.limits.TheConstants.{MOST_PACKETS}
-use Rattle.option_words.specs.Forms.{number}
-use Rattle.option_words.specs.Options.{OptionRow, has_value, operand, read_value}
-use Rattle.option_words.specs.OptionTable.{OptionTable}
-use Rattle.option_words.specs.Number.{number_within}
+use Rattle.plugin_options.specs.declared.limits.TheConstants.{MOST_PACKETS}
+use Rattle.plugin_options.specs.Forms.{number}
+use Rattle.plugin_options.specs.Options.{OptionRow, has_value, operand, read_value}
+use Rattle.plugin_options.specs.OptionTable.{OptionTable}
+use Rattle.plugin_options.specs.Number.{number_within}
 
 -- the options
 abbrev pub skip_rows : List OptionRow

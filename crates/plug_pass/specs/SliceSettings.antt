@@ -1,7 +1,7 @@
 -- Valid settings of `slice`.
 -- This project's own rule.
 use Rattle.std.specs.Prelude.{◌==◌, ◌≤◌, ◌&&◌, ◌||◌, ℕ, Bool, IfSome, IsTrue, Option, Some, false, is_some, not}
-use Rattle.plug_conf.specs.declared.limits.TheConstants.{MOST_NUMBER}
+use Rattle.plugin_options.specs.declared.limits.TheConstants.{MOST_NUMBER}
 use Rattle.plug_pass.specs.declared.slice_conf.SliceConf.{SliceConf}
 
 -- one of the options is given
@@ -24,7 +24,7 @@ abbrev pub IsBounded : Option ℕ → Type 0
 IsBounded n = IfSome n (λ k. k ≤ MOST_NUMBER)
 
 -- the settings give what `slice` needs, each number in its range, and no two that exclude each other
-pub record IsLawfulSlice (c : SliceConf) : Type 0 where
+pub record IsValidSlice (c : SliceConf) : Type 0 where
   pub dropped : IsBounded c.drop
   pub nulled : IsBounded c.null
   pub passed : IsBounded c.pass

@@ -4,11 +4,11 @@ use Rattle.std.specs.Prelude.{ℕ, ◌||◌, List, [], ◌∷◌, Option, codes}
 use Rattle.clap.specs.Walk.{Row}
 use Rattle.plug_pass.specs.SliceSettings.{slices_differ}
 use Rattle.plug_pass.specs.declared.slice_conf.SliceConf.{SliceConf}
-use Rattle.plug_conf.specs.declared.limits.TheConstants.{MOST_NUMBER}
-use Rattle.option_words.specs.Forms.{Form, number}
-use Rattle.option_words.specs.Options.{OptionRow, has_value, read_value, value}
-use Rattle.option_words.specs.OptionTable.{OptionTable}
-use Rattle.option_words.specs.Number.{number_within}
+use Rattle.plugin_options.specs.declared.limits.TheConstants.{MOST_NUMBER}
+use Rattle.plugin_options.specs.Forms.{Form, number}
+use Rattle.plugin_options.specs.Options.{OptionRow, has_value, read_value, value}
+use Rattle.plugin_options.specs.OptionTable.{OptionTable}
+use Rattle.plugin_options.specs.Number.{number_within}
 
 -- a number of packets, 0 to 2^60
 abbrev pub slice_form : Form

@@ -2,10 +2,10 @@
 
 ghost use Rattle.std.specs.Prelude.{◌≡◌, IfOk, [], Some};
 ghost use Rattle.plug_pass.specs.FilterRule.{filter_rule};
-ghost use Rattle.plug_pass.specs.FilterSettings.{IsLawfulFilter};
+ghost use Rattle.plug_pass.specs.FilterSettings.{IsValidFilter};
 
 use crate::filter_conf::FilterConf;
-use plug_conf::{LabelList, PidSet};
+use plugin_options::{LabelList, PidSet};
 use plugin_trait::{Outcome, Plugin, Silent, Steps};
 use std::alloc::{AllocError, Global};
 use ts_packet::{Labels, Packet};
@@ -31,10 +31,10 @@ pub type Filter = Silent<FilterSteps>;
 /// A plugin that met no cell yet. It takes room for its table of PIDs and its lists of labels, and its steps take
 /// none.
 pub fn new_filter(alloc: Global, conf: &FilterConf, buffer: usize) -> Result<Filter, AllocError>
-    requires { IsLawfulFilter conf.now }
+    requires { IsValidFilter conf.now }
     ensures rule { IfOk result (λ plugin. ⟦<Filter as Plugin>⟧.rule plugin ≡ filter_rule conf.now) }
     ensures fresh { IfOk result (λ plugin. ⟦<Filter as Plugin>⟧.stands_for plugin [] 0) }
-    ensures steady { IfOk result (λ plugin. ⟦<Filter as Plugin>⟧.steady plugin ≡ Some buffer) }
+    ensures preallocated { IfOk result (λ plugin. ⟦<Filter as Plugin>⟧.preallocated plugin ≡ Some buffer) }
 {
     let steps = FilterSteps {
         pids: PidSet::of(alloc, &conf.pid)?,
@@ -84,7 +84,7 @@ impl Steps for FilterSteps {
 
     ghost stands_for = { λ s history. Unit {0} };
 
-    ghost steady = { λ s. Some s.buffer };
+    ghost preallocated = { λ s. Some s.buffer };
 
     // Inlined: otherwise the loop of `steps` has a call for each cell.
     #[inline(always)]

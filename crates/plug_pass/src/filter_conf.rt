@@ -3,7 +3,7 @@
 ghost use Rattle.std.specs.Prelude.{◌≡◌};
 ghost use Rattle.plug_pass.specs.FilterSettings.{filter_together, sets_labels};
 
-use plug_conf::NumberSet;
+use plugin_options::NumberSet;
 
 /// Settings of `filter`, which selects the packets that meet one of its conditions.
 ///

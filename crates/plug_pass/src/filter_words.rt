@@ -1,16 +1,16 @@
 //! The options of `filter`, and its settings from their values.
 
 ghost use Rattle.std.specs.Prelude.{◌≡◌, IfOk};
-ghost use Rattle.plug_pass.specs.FilterSettings.{IsLawfulFilter};
+ghost use Rattle.plug_pass.specs.FilterSettings.{IsValidFilter};
 ghost use Rattle.plug_pass.specs.FilterWords.{filter};
-ghost use Rattle.option_words.specs.Refusal.{ReadsParsed};
+ghost use Rattle.plugin_options.specs.Refusal.{ReadsParsed};
 
 use crate::filter_conf::FilterConf;
-use option_words::{
-    Beside, Need, OptionRow, OptionText, OptionWord, ParsedOptions, Refusal, Takes, WordsRule,
-};
-use plug_conf::{LAST_LABEL, LAST_PID};
 use plugin_entry::{PluginHelp, PluginSettings};
+use plugin_options::{
+    Beside, LAST_LABEL, LAST_PID, Need, OptionRow, OptionText, OptionWord, ParsedOptions, Refusal,
+    Takes, WordsRule,
+};
 use std::alloc::Global;
 
 // The options of `filter`, of which the first five are conditions.
@@ -103,7 +103,7 @@ fn has_condition(found: &ParsedOptions) -> bool
 // Reads the settings of `filter` from what its command found in the words.
 fn filter_settings(alloc: Global, found: &ParsedOptions) -> Result<FilterConf, Refusal>
     ensures reads { ReadsParsed filter found.now result }
-    ensures lawful { IfOk result IsLawfulFilter }
+    ensures valid { IfOk result IsValidFilter }
 {
     if !has_condition(found) {
         return Err(Refusal::Broken(WordsRule::Missing));

@@ -2,10 +2,10 @@
 
 ghost use Rattle.std.specs.Prelude.{◌≡◌, ◌≤◌, ◌<◌, IfOk, ℕ, List, [], Some, length};
 ghost use Rattle.plug_pass.specs.PatternRule.{pattern_rule, repeated, patterned_from};
-ghost use Rattle.plug_pass.specs.PatternSettings.{IsLawfulPattern};
+ghost use Rattle.plug_pass.specs.PatternSettings.{IsValidPattern};
 
 use crate::pattern_conf::PatternConf;
-use plug_conf::PidSet;
+use plugin_options::PidSet;
 use plugin_trait::{Outcome, Plugin, Silent, Steps};
 use std::alloc::{AllocError, Global};
 use ts_outside::FileBytes;
@@ -30,10 +30,10 @@ pub type Pattern = Silent<PatternSteps>;
 /// A plugin that met no cell yet. It takes room for its pattern and its table of PIDs, and its steps
 /// take none.
 pub fn new_pattern(alloc: Global, conf: &PatternConf, buffer: usize) -> Result<Pattern, AllocError>
-    requires { IsLawfulPattern conf.now }
+    requires { IsValidPattern conf.now }
     ensures rule { IfOk result (λ plugin. ⟦<Pattern as Plugin>⟧.rule plugin ≡ pattern_rule conf.now) }
     ensures fresh { IfOk result (λ plugin. ⟦<Pattern as Plugin>⟧.stands_for plugin [] 0) }
-    ensures steady { IfOk result (λ plugin. ⟦<Pattern as Plugin>⟧.steady plugin ≡ Some buffer) }
+    ensures preallocated { IfOk result (λ plugin. ⟦<Pattern as Plugin>⟧.preallocated plugin ≡ Some buffer) }
 {
     let steps = PatternSteps {
         pattern: conf.operand.copy()?,
@@ -105,7 +105,7 @@ impl Steps for PatternSteps {
 
     ghost stands_for = { λ s history. IsMade s.filled s.pattern s.offset_pusi s.offset_non_pusi };
 
-    ghost steady = { λ s. Some s.buffer };
+    ghost preallocated = { λ s. Some s.buffer };
 
     #[inline]
     fn step(&mut self, _at: u64, packet: &mut Packet, _labels: &mut Labels) -> Outcome {
@@ -126,7 +126,7 @@ impl Steps for PatternSteps {
 
 // Writes a pattern from a place to the packet's end, where the place is in the packet.
 fn write_from(packet: &mut Packet, at: u64, filled: &[u8; PAYLOAD_SIZE])
-    requires behind_header { 4 ≤ at }
+    requires after_header { 4 ≤ at }
     ensures { (pattern : List ℕ) → filled.now ≡ repeated pattern PAYLOAD_SIZE → packet.new ≡ patterned_from pattern at packet.old }
 {
     if at < PACKET_SIZE as u64 {

@@ -1,6 +1,6 @@
 //! The settings of `pattern`.
 
-use plug_conf::NumberSet;
+use plugin_options::NumberSet;
 use ts_outside::FileBytes;
 
 /// Settings of `pattern`, which writes a pattern over the payload.

@@ -1,16 +1,16 @@
 //! The options of `pattern`, and its settings from their values.
 
 ghost use Rattle.std.specs.Prelude.{◌≡◌, IfOk};
-ghost use Rattle.plug_pass.specs.PatternSettings.{IsLawfulPattern};
+ghost use Rattle.plug_pass.specs.PatternSettings.{IsValidPattern};
 ghost use Rattle.plug_pass.specs.PatternWords.{pattern};
-ghost use Rattle.option_words.specs.Refusal.{ReadsParsed};
+ghost use Rattle.plugin_options.specs.Refusal.{ReadsParsed};
 
 use crate::pattern_conf::PatternConf;
-use option_words::{
-    Beside, Need, OptionRow, OptionText, OptionWord, ParsedOptions, Refusal, Takes, WordsRule,
-};
-use plug_conf::{LAST_OFFSET, LAST_PID};
 use plugin_entry::{PluginHelp, PluginSettings};
+use plugin_options::{
+    Beside, LAST_OFFSET, LAST_PID, Need, OptionRow, OptionText, OptionWord, ParsedOptions, Refusal,
+    Takes, WordsRule,
+};
 use std::alloc::Global;
 use ts_packet::PAYLOAD_SIZE;
 
@@ -66,7 +66,7 @@ static PATTERN: [OptionRow; 5] = [
 // Reads the settings of `pattern` from what its command found in the words.
 fn pattern_settings(alloc: Global, found: &ParsedOptions) -> Result<PatternConf, Refusal>
     ensures reads { ReadsParsed pattern found.now result }
-    ensures lawful { IfOk result IsLawfulPattern }
+    ensures valid { IfOk result IsValidPattern }
 {
     if !found.has_value("operand") {
         return Err(Refusal::Broken(WordsRule::Missing));

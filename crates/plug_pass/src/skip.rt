@@ -2,7 +2,7 @@
 
 ghost use Rattle.std.specs.Prelude.{◌≡◌, ◌<◌, IfOk, [], Some};
 ghost use Rattle.plug_pass.specs.SkipRule.{skip_rule};
-ghost use Rattle.plug_pass.specs.SkipSettings.{IsLawfulSkip};
+ghost use Rattle.plug_pass.specs.SkipSettings.{IsValidSkip};
 
 use crate::skip_conf::SkipConf;
 use plugin_trait::{Outcome, Plugin, Silent, Steps};
@@ -25,10 +25,10 @@ pub type Skip = Silent<SkipSteps>;
 
 /// A plugin that met no cell yet.
 pub fn new_skip(_alloc: Global, conf: &SkipConf, buffer: usize) -> Result<Skip, AllocError>
-    requires { IsLawfulSkip conf.now }
+    requires { IsValidSkip conf.now }
     ensures rule { IfOk result (λ plugin. ⟦<Skip as Plugin>⟧.rule plugin ≡ skip_rule conf.now.operand) }
     ensures fresh { IfOk result (λ plugin. ⟦<Skip as Plugin>⟧.stands_for plugin [] 0) }
-    ensures steady { IfOk result (λ plugin. ⟦<Skip as Plugin>⟧.steady plugin ≡ Some buffer) }
+    ensures preallocated { IfOk result (λ plugin. ⟦<Skip as Plugin>⟧.preallocated plugin ≡ Some buffer) }
 {
     let steps = SkipSteps {
         count: conf.operand,
@@ -47,7 +47,7 @@ impl Steps for SkipSteps {
 
     ghost stands_for = { λ s history. s.left ≡ s.count - live_count history };
 
-    ghost steady = { λ s. Some s.buffer };
+    ghost preallocated = { λ s. Some s.buffer };
 
     #[inline]
     fn step(&mut self, _at: u64, _packet: &mut Packet, _labels: &mut Labels) -> Outcome {

@@ -1,16 +1,16 @@
 //! The options of `skip`, and its settings from their values.
 
 ghost use Rattle.std.specs.Prelude.{◌≡◌, IfOk};
-ghost use Rattle.plug_pass.specs.SkipSettings.{IsLawfulSkip};
+ghost use Rattle.plug_pass.specs.SkipSettings.{IsValidSkip};
 ghost use Rattle.plug_pass.specs.SkipWords.{skip};
-ghost use Rattle.option_words.specs.Refusal.{ReadsParsed};
+ghost use Rattle.plugin_options.specs.Refusal.{ReadsParsed};
 
 use crate::skip_conf::SkipConf;
-use option_words::{
-    Beside, Need, OptionRow, OptionText, OptionWord, ParsedOptions, Refusal, Takes, WordsRule,
-};
-use plug_conf::MOST_PACKETS;
 use plugin_entry::{PluginHelp, PluginSettings};
+use plugin_options::{
+    Beside, MOST_PACKETS, Need, OptionRow, OptionText, OptionWord, ParsedOptions, Refusal, Takes,
+    WordsRule,
+};
 use std::alloc::Global;
 
 // The options of `skip`.
@@ -27,7 +27,7 @@ static SKIP: [OptionRow; 1] = [OptionRow {
 // Reads the settings of `skip` from what its command found in the words.
 fn skip_settings(found: &ParsedOptions) -> Result<SkipConf, Refusal>
     ensures reads { ReadsParsed skip found.now result }
-    ensures lawful { IfOk result IsLawfulSkip }
+    ensures valid { IfOk result IsValidSkip }
 {
     if !found.has_value("operand") {
         return Err(Refusal::Broken(WordsRule::Missing));

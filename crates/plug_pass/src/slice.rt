@@ -2,7 +2,7 @@
 
 ghost use Rattle.std.specs.Prelude.{◌≡◌, IfOk, [], Some};
 ghost use Rattle.plug_pass.specs.SliceRule.{slice_rule, is_between};
-ghost use Rattle.plug_pass.specs.SliceSettings.{IsLawfulSlice};
+ghost use Rattle.plug_pass.specs.SliceSettings.{IsValidSlice};
 
 use crate::slice_conf::SliceConf;
 use plugin_trait::{Outcome, Plugin, Silent, Steps};
@@ -27,10 +27,10 @@ pub type Slice = Silent<SliceSteps>;
 
 /// A plugin that met no cell yet. It allocates nothing, here and in its steps.
 pub fn new_slice(_alloc: Global, conf: &SliceConf, buffer: usize) -> Result<Slice, AllocError>
-    requires { IsLawfulSlice conf.now }
+    requires { IsValidSlice conf.now }
     ensures rule { IfOk result (λ plugin. ⟦<Slice as Plugin>⟧.rule plugin ≡ slice_rule conf.now) }
     ensures fresh { IfOk result (λ plugin. ⟦<Slice as Plugin>⟧.stands_for plugin [] 0) }
-    ensures steady { IfOk result (λ plugin. ⟦<Slice as Plugin>⟧.steady plugin ≡ Some buffer) }
+    ensures preallocated { IfOk result (λ plugin. ⟦<Slice as Plugin>⟧.preallocated plugin ≡ Some buffer) }
 {
     let steps = SliceSteps {
         drop: conf.drop,
@@ -89,7 +89,7 @@ impl Steps for SliceSteps {
 
     ghost stands_for = { λ s history. (s.met ≡ live_count history) × (s.met ≤ length history) };
 
-    ghost steady = { λ s. Some s.buffer };
+    ghost preallocated = { λ s. Some s.buffer };
 
     // Inlined: otherwise the loop of `steps` has a call for each cell.
     #[inline(always)]

@@ -1,16 +1,16 @@
 //! The options of `slice`, and its settings from their values.
 
 ghost use Rattle.std.specs.Prelude.{◌≡◌, IfOk};
-ghost use Rattle.plug_pass.specs.SliceSettings.{IsLawfulSlice};
+ghost use Rattle.plug_pass.specs.SliceSettings.{IsValidSlice};
 ghost use Rattle.plug_pass.specs.SliceWords.{slice};
-ghost use Rattle.option_words.specs.Refusal.{ReadsParsed};
+ghost use Rattle.plugin_options.specs.Refusal.{ReadsParsed};
 
 use crate::slice_conf::SliceConf;
-use option_words::{
-    Beside, Need, OptionRow, OptionText, OptionWord, ParsedOptions, Refusal, Takes, WordsRule,
-};
-use plug_conf::MOST_NUMBER;
 use plugin_entry::{PluginHelp, PluginSettings};
+use plugin_options::{
+    Beside, MOST_NUMBER, Need, OptionRow, OptionText, OptionWord, ParsedOptions, Refusal, Takes,
+    WordsRule,
+};
 use std::alloc::Global;
 
 // The options of `slice`.
@@ -56,7 +56,7 @@ static SLICE: [OptionRow; 4] = [
 // Reads the settings of `slice` from what its command found in the words.
 fn slice_settings(found: &ParsedOptions) -> Result<SliceConf, Refusal>
     ensures reads { ReadsParsed slice found.now result }
-    ensures lawful { IfOk result IsLawfulSlice }
+    ensures valid { IfOk result IsValidSlice }
 {
     let is_given = found.has_value("drop")
         || found.has_value("null")

@@ -62,9 +62,9 @@ one_with jitter_max at packet jitter =
       | false ↦ record { one = inl refl }
     ]
 
-one_behind : (conf : PcrverifyConf) (at : ℕ) (before : Option Met) (packet : List ℕ) → IsNoteAt place_of_fault at (fault_behind conf at before packet)
-one_behind conf at None packet = record { one = inl refl }
-one_behind conf at (Some before) packet =
+one_after : (conf : PcrverifyConf) (at : ℕ) (before : Option Met) (packet : List ℕ) → IsNoteAt place_of_fault at (fault_behind conf at before packet)
+one_after conf at None packet = record { one = inl refl }
+one_after conf at (Some before) packet =
     let jitter = jitter_of conf.bitrate (at - before.at) (clock_of before.packet) (clock_of packet) in
     elim (discontinuity_of packet) as (λ b. IsNoteAt place_of_fault at (if b then [] else fault_with conf.jitter_max at packet jitter)) [
       | true ↦ record { one = inl refl }
@@ -75,7 +75,7 @@ pub one_fault : (conf : PcrverifyConf) (history : List Cell) (packet : List ℕ)
 one_fault conf history packet =
     let last = last_clock_on (pid_of packet) history in
     elim (is_clocked conf packet) as (λ b. IsNoteAt place_of_fault (length history) (if b then fault_behind conf (length history) last packet else [])) [
-      | true ↦ one_behind conf (length history) last packet
+      | true ↦ one_after conf (length history) last packet
       | false ↦ record { one = inl refl }
     ]
 

@@ -11,7 +11,7 @@ use Rattle.ts_packet.specs.Header.{pid_of}
 use Rattle.ts_packet.specs.MetRows.{Met, met_rows}
 use Rattle.ts_packet.specs.Pcr.{clock_of, has_pcr_of}
 use Rattle.ts_packet.proofs.RowLemmas.{met-more}
-use Rattle.plug_conf.specs.Selection.{is_selected}
+use Rattle.plugin_options.specs.Selection.{is_selected}
 use Rattle.plug_pcr.specs.ClockFaults.{clocks_on, has_clock_on, is_clocked}
 use Rattle.plug_pcr.specs.LastClocks.{IsEarlier, Remembers, kept_of, kept_on}
 use Rattle.plug_pcr.specs.declared.last_clock.LastClock.{LastClock}

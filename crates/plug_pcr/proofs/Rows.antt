@@ -1,7 +1,7 @@
 -- Worked rows of `pcrverify`, computed on the definitions. Packets of twelve bytes are enough here.
 use Rattle.std.proofs.Common.{◌≡◌, ℕ, ◌+◌, ◌-◌, ◌*◌, ◌^◌, ◌/◌, ◌%◌, List, [], ◌∷◌, codes, refl}
 use Rattle.std.specs.Fmt.{digits}
-use Rattle.bit_rows.specs.BitRow.{bit_of, field}
+use Rattle.ts_bit_rows.specs.BitRow.{bit_of, field}
 use Rattle.ts_packet.specs.declared.cell.Cell.{Cell}
 use Rattle.ts_packet.specs.Cells.{Live, Dropped}
 use Rattle.ts_packet.specs.Adaptation.{adaptation_length_of, discontinuity_of}

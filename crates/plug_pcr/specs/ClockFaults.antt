@@ -9,7 +9,7 @@ use Rattle.ts_packet.specs.Adaptation.{discontinuity_of}
 use Rattle.ts_packet.specs.Pcr.{clock_of, has_pcr_of}
 use Rattle.plugin_trait.specs.declared.line.Line.{Line}
 use Rattle.plugin_notes.specs.Notes.{notes_after}
-use Rattle.plug_conf.specs.Selection.{is_selected}
+use Rattle.plugin_options.specs.Selection.{is_selected}
 use Rattle.plug_pcr.specs.ClockJitter.{jitter_of}
 use Rattle.plug_pcr.specs.declared.clock_fault.ClockFault.{ClockFault}
 use Rattle.plug_pcr.specs.declared.pcrverify_conf.PcrverifyConf.{PcrverifyConf}

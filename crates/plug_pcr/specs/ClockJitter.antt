@@ -8,8 +8,8 @@ abbrev pub units_taken : ℕ → ℕ → ℕ
 units_taken bitrate packets = packets * PACKET_UNITS / bitrate
 
 -- by how many units a PCR is ahead of a value of the clock, which wraps at its period
-abbrev pub units_behind : ℕ → ℕ → ℕ
-units_behind wanted clock = (clock + (CLOCK_PERIOD - wanted % CLOCK_PERIOD)) % CLOCK_PERIOD
+abbrev pub units_after : ℕ → ℕ → ℕ
+units_after wanted clock = (clock + (CLOCK_PERIOD - wanted % CLOCK_PERIOD)) % CLOCK_PERIOD
 
 -- a number of units forwards, or the rest of the period backwards, whichever is less
 abbrev pub least_way : ℕ → ℕ
@@ -17,7 +17,7 @@ least_way units = if nat_le units (CLOCK_PERIOD - units) then units else CLOCK_P
 
 -- the jitter of a PCR some packets after another one: its distance from that one plus the units of these packets
 abbrev pub jitter_of : ℕ → ℕ → ℕ → ℕ → ℕ
-jitter_of bitrate packets before clock = least_way (units_behind (before + units_taken bitrate packets) clock)
+jitter_of bitrate packets before clock = least_way (units_after (before + units_taken bitrate packets) clock)
 
 -- the clock at a position of a stream of a constant bit rate, given the clock of its first packet
 abbrev pub clock_at : ℕ → ℕ → ℕ → ℕ

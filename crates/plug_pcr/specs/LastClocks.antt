@@ -6,7 +6,7 @@ use Rattle.ts_packet.specs.declared.numbers.TheConstants.{PID_COUNT}
 use Rattle.ts_packet.specs.MetRows.{Met}
 use Rattle.ts_packet.specs.Adaptation.{discontinuity_of}
 use Rattle.ts_packet.specs.Pcr.{clock_of}
-use Rattle.plug_conf.specs.Selection.{is_selected}
+use Rattle.plugin_options.specs.Selection.{is_selected}
 use Rattle.plug_pcr.specs.ClockFaults.{fault_with, last_clock_on}
 use Rattle.plug_pcr.specs.ClockJitter.{jitter_of}
 use Rattle.plug_pcr.specs.declared.clock_fault.ClockFault.{ClockFault}

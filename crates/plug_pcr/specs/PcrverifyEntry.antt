@@ -2,12 +2,12 @@
 use Rattle.std.specs.Prelude.{codes, None, false}
 use Rattle.plugin_entry.specs.PluginEntry.{PluginEntry, silent_entry}
 use Rattle.plug_pcr.specs.PcrverifyRule.{pcrverify_rule}
-use Rattle.plug_pcr.specs.PcrverifySettings.{IsLawfulPcrverify}
+use Rattle.plug_pcr.specs.PcrverifySettings.{IsValidPcrverify}
 use Rattle.plug_pcr.specs.PcrverifyWords.{pcrverify}
 use Rattle.plug_pcr.specs.declared.pcrverify_conf.PcrverifyConf.{PcrverifyConf}
 
 abbrev pub pcrverify_entry : PluginEntry PcrverifyConf
-pcrverify_entry = record (silent_entry (codes "pcrverify") pcrverify IsLawfulPcrverify pcrverify_rule) {
-  steady = λ _ _. None;
+pcrverify_entry = record (silent_entry (codes "pcrverify") pcrverify IsValidPcrverify pcrverify_rule) {
+  preallocated = λ _ _. None;
   silent = λ _. false;
 }

@@ -1,12 +1,12 @@
 -- The options of `pcrverify`. This project's own rule.
 use Rattle.std.specs.Prelude.{List, [], ◌∷◌, codes, true, unwrap_or}
 use Rattle.clap.specs.Walk.{Row}
-use Rattle.plug_conf.specs.declared.limits.TheConstants.{LAST_PID}
-use Rattle.option_words.specs.Forms.{number, ranges}
-use Rattle.option_words.specs.Number.{number_within}
-use Rattle.option_words.specs.Options.{OptionRow, has_value, read_value, value}
-use Rattle.option_words.specs.OptionTable.{OptionTable}
-use Rattle.option_words.specs.Ranges.{ranges_of}
+use Rattle.plugin_options.specs.declared.limits.TheConstants.{LAST_PID}
+use Rattle.plugin_options.specs.Forms.{number, ranges}
+use Rattle.plugin_options.specs.Number.{number_within}
+use Rattle.plugin_options.specs.Options.{OptionRow, has_value, read_value, value}
+use Rattle.plugin_options.specs.OptionTable.{OptionTable}
+use Rattle.plugin_options.specs.Ranges.{ranges_of}
 use Rattle.plug_pcr.specs.declared.limits.TheConstants.{DEFAULT_JITTER, MOST_BITRATE, MOST_JITTER}
 use Rattle.plug_pcr.specs.declared.pcrverify_conf.PcrverifyConf.{PcrverifyConf}
 

@@ -7,8 +7,8 @@ use crate::last_clock::{LastClock, fault_behind};
 use crate::last_clocks::LastClocks;
 use crate::noted_clocks::NotedClocks;
 use crate::pcrverify_conf::PcrverifyConf;
-use plug_conf::PidSet;
 use plugin_notes::push_line;
+use plugin_options::PidSet;
 use plugin_trait::{Line, LineText, Outcome, Plugin};
 use std::alloc::{AllocError, Global};
 use ts_packet::{Labels, Packet};
@@ -34,20 +34,20 @@ impl Pcrverify {
     ghost use Rattle.ts_packet.specs.Cells.{Live};
     ghost use Rattle.ts_packet.specs.Header.{pid_of};
     ghost use Rattle.ts_packet.specs.Pcr.{pcr_of};
-    ghost use Rattle.plug_conf.specs.Selection.{is_selected};
+    ghost use Rattle.plugin_options.specs.Selection.{is_selected};
     ghost use Rattle.chain_model.specs.declared.positions.TheConstants.{POSITION_LIMIT};
     ghost use Rattle.plugin_trait.specs.Steps.{MeetsCells};
-    ghost use Rattle.plug_pcr.specs.PcrverifySettings.{IsLawfulPcrverify};
+    ghost use Rattle.plug_pcr.specs.PcrverifySettings.{IsValidPcrverify};
     ghost use Rattle.plug_pcr.specs.PcrverifyRule.{pcrverify_rule};
     ghost use Rattle.plug_pcr.specs.PcrverifyConfOf.{StandsFor, conf_of};
 
     /// A new plugin, which has processed no cell. It allocates its tables, and room for notes on as many packets as
     /// the buffer holds.
     pub fn new(alloc: Global, conf: &PcrverifyConf, buffer: usize) -> Result<Pcrverify, AllocError>
-        requires { IsLawfulPcrverify conf.now }
+        requires { IsValidPcrverify conf.now }
         ensures rule { IfOk result (λ plugin. ⟦<Pcrverify as Plugin>⟧.rule plugin ≡ pcrverify_rule conf.now) }
         ensures fresh { IfOk result (λ plugin. ⟦<Pcrverify as Plugin>⟧.stands_for plugin [] 0) }
-        ensures steady { IfOk result (λ plugin. ⟦<Pcrverify as Plugin>⟧.steady plugin ≡ None) }
+        ensures preallocated { IfOk result (λ plugin. ⟦<Pcrverify as Plugin>⟧.preallocated plugin ≡ None) }
     {
         Ok(Pcrverify {
             bitrate: conf.bitrate,
@@ -112,7 +112,7 @@ impl Plugin for Pcrverify {
 
     ghost stands_for = { λ s history mark. StandsFor s history mark };
 
-    ghost steady = { λ s. None };
+    ghost preallocated = { λ s. None };
 
     // Inlined always: otherwise the loop of `steps` has a call for each cell.
     #[inline(always)]

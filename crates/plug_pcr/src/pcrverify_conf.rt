@@ -1,5 +1,5 @@
 //! The settings of `pcrverify`.
-use plug_conf::NumberSet;
+use plugin_options::NumberSet;
 
 /// Settings of `pcrverify`, which compares PCRs with a constant bit rate.
 #[derive(Drop)]

@@ -1,16 +1,16 @@
 //! The options of `pcrverify`.
 ghost use Rattle.std.specs.Prelude.{◌≡◌, IfOk};
-ghost use Rattle.option_words.specs.Refusal.{ReadsParsed};
-ghost use Rattle.plug_pcr.specs.PcrverifySettings.{IsLawfulPcrverify};
+ghost use Rattle.plugin_options.specs.Refusal.{ReadsParsed};
+ghost use Rattle.plug_pcr.specs.PcrverifySettings.{IsValidPcrverify};
 ghost use Rattle.plug_pcr.specs.PcrverifyWords.{pcrverify};
 
 use crate::limits::{DEFAULT_JITTER, MOST_BITRATE, MOST_JITTER};
 use crate::pcrverify_conf::PcrverifyConf;
-use option_words::{
-    Beside, Need, OptionRow, OptionText, OptionWord, ParsedOptions, Refusal, Takes, WordsRule,
-};
-use plug_conf::LAST_PID;
 use plugin_entry::{PluginHelp, PluginSettings};
+use plugin_options::{
+    Beside, LAST_PID, Need, OptionRow, OptionText, OptionWord, ParsedOptions, Refusal, Takes,
+    WordsRule,
+};
 use std::alloc::Global;
 
 // The options of `pcrverify`.
@@ -47,7 +47,7 @@ static PCRVERIFY: [OptionRow; 3] = [
 // Reads the settings of `pcrverify` from the options that its command found.
 fn pcrverify_settings(alloc: Global, found: &ParsedOptions) -> Result<PcrverifyConf, Refusal>
     ensures reads { ReadsParsed pcrverify found.now result }
-    ensures lawful { IfOk result IsLawfulPcrverify }
+    ensures valid { IfOk result IsValidPcrverify }
 {
     if !found.has_value("bitrate") {
         return Err(Refusal::Broken(WordsRule::Missing));

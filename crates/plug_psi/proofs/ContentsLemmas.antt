@@ -3,7 +3,7 @@ use Rattle.std.proofs.Common.{◌≡◌, ℕ, List, [], ◌∷◌, ◌++◌, fol
 use Rattle.std.proofs.lemmas.List.Sums.{fold-append}
 use Rattle.indexmap.specs.IndexMap.{values}
 use Rattle.ts_demux.specs.TablesOn.{Completes, tables_on}
-use Rattle.ts_demux.proofs.TablesBehind.{no_tables}
+use Rattle.ts_demux.proofs.TablesAfter.{no_tables}
 use Rattle.plug_psi.specs.Contents.{Entry, with_table, entries_of, contents_of}
 use Rattle.plug_psi.specs.ContentsState.{HasContents}
 use Rattle.plug_psi.specs.declared.contents.Contents.{Contents}

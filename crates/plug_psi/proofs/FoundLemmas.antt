@@ -5,10 +5,10 @@ use Rattle.std.proofs.lemmas.Bool.{ne_eqb}
 use Rattle.std.proofs.lemmas.List.Sums.{fold-append}
 use Rattle.ts_packet.specs.Header.{pid_of}
 use Rattle.ts_demux.specs.TablesOn.{Completes, packets_on, tables_on}
-use Rattle.ts_demux.proofs.TablesBehind.{no_tables}
+use Rattle.ts_demux.proofs.TablesAfter.{no_tables}
 use Rattle.ts_demux.proofs.TakenLemmas.{on-other, on-own}
 use Rattle.ts_demux.proofs.UncountedPackets.{same-tables}
-use Rattle.plug_psi.specs.LastFound.{found_behind, newer, last_found, last_one}
+use Rattle.plug_psi.specs.LastFound.{found_after, newer, last_found, last_one}
 use Rattle.plug_psi.specs.KeptTables.{TellsFound}
 use Rattle.plug_psi.specs.ReadingState.{Reads}
 use Rattle.plug_psi.specs.declared.kept.Kept.{Kept}
@@ -16,18 +16,18 @@ use Rattle.plug_psi.specs.declared.reading.Reading.{Reading}
 
 pub found-none : {X : Type 0} (found : List (List ℕ) → Option X) (pid : ℕ) → last_found found (tables_on pid []) ≡ None
 unfolding last_found
-found-none found pid = ap (found_behind found None) (no_tables pid)
+found-none found pid = ap (found_after found None) (no_tables pid)
 
 -- what is kept becomes, with the tables that a packet completes, what is found in all
 pub found-more :
     {X : Type 0} (found : List (List ℕ) → Option X) (old new : Option X) (list tables : List (List (List ℕ))) (pid : ℕ) (taken : List (List ℕ)) (packet : List ℕ) →
-    list ≡ tables → new ≡ found_behind found old list →
+    list ≡ tables → new ≡ found_after found old list →
     old ≡ last_found found (tables_on pid taken) → Completes pid taken packet tables → new ≡ last_found found (tables_on pid (taken ++ packet ∷ []))
 unfolding last_found
 found-more found old new list tables pid taken packet same kept before completes =
-    kept ∙ ap (found_behind found old) same ∙ ap (λ o. found_behind found o tables) before
+    kept ∙ ap (found_after found old) same ∙ ap (λ o. found_after found o tables) before
     ∙ sym (fold-append (λ o table. newer o (found table)) None (tables_on pid taken) tables)
-    ∙ sym (ap (found_behind found None) completes)
+    ∙ sym (ap (found_after found None) completes)
 
 -- what is found in the tables of the packets on a PID is found in those of all packets
 pub found-on : {X : Type 0} (found : List (List ℕ) → Option X) (pid : ℕ) (met : List (List ℕ)) →

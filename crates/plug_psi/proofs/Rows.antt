@@ -1,18 +1,18 @@
 -- Worked rows, computed on the definitions.
 use Rattle.std.proofs.Common.{◌≡◌, ℕ, ◌==◌, List, [], ◌∷◌, length, map, None, Some, true, false, refl, nat_lt}
 use Rattle.std.specs.Prelude.{Option, if◌then◌else◌}
-use Rattle.bit_rows.specs.BitRow.{bit_of, field}
+use Rattle.ts_bit_rows.specs.BitRow.{bit_of, field}
 use Rattle.ts_bits.specs.TaggedBody.{TaggedBody}
 use Rattle.ts_bits.specs.DescriptorLoop.{descriptors_from}
 use Rattle.ts_fields.specs.Bits.{bits, number_of}
 use Rattle.ts_fields.specs.Reading.{read_number, read_bytes, read_rest, read_field, read_rows}
-use Rattle.ts_fields.specs.Bodies.{read_page, read_behind}
+use Rattle.ts_fields.specs.Bodies.{read_page, read_after}
 use Rattle.ts_descr.specs.Descriptors.{read_typed}
 use Rattle.ts_table_rows.specs.BodyReading as table_reading
 use Rattle.ts_table_rows.specs.BodyReading.{read_body, read_fields, read_heading, read_last_loop, read_loop}
 use Rattle.ts_table_rows.specs.RunReading.{read_run, read_section, read_sections}
 use Rattle.ts_table_rows.specs.TableValues.{TableHolding}
-use Rattle.ts_demux.specs.TakenWhere.{taken_behind, taken_where}
+use Rattle.ts_demux.specs.TakenWhere.{taken_after, taken_where}
 use Rattle.plug_psi.specs.CatInForce.{current_cat}
 use Rattle.plug_psi.specs.Contents.{entries_of}
 use Rattle.plug_psi.specs.InForce.{current_pat, current_pmt, services_in}
@@ -32,7 +32,7 @@ no_ca = record { tag = 0x09; body = 0x18 ∷ 0x00 ∷ 0x01 ∷ 0x2C ∷ [] }
 -- the PIDs of a PMT with a CA_descriptor of a component, and one that is none
 pids-told : pids_in (table_of 0x02 1 (256 ∷ []) (no_ca ∷ []) (item_of 2 256 [] ∷ item_of 3 257 (ca_300 ∷ []) ∷ []))
     ≡ 256 ∷ 256 ∷ 257 ∷ 300 ∷ []
-unfolding bits number_of read_number read_bytes read_rest read_field read_rows read_page read_behind read_typed
+unfolding bits number_of read_number read_bytes read_rest read_field read_rows read_page read_after read_typed
 pids-told = refl
 
 -- without a PCR
@@ -51,7 +51,7 @@ abbrev cat_row : Option TableHolding
 cat_row = Some (table_of 0x01 0xFFFF [] (no_ca ∷ ca_300 ∷ []) [])
 
 named-row : named_pids pat_row pmts_row cat_row ≡ 16 ∷ 4096 ∷ 4097 ∷ 256 ∷ 256 ∷ 257 ∷ 300 ∷ []
-unfolding bits number_of read_number read_bytes read_rest read_field read_rows read_page read_behind read_typed
+unfolding bits number_of read_number read_bytes read_rest read_field read_rows read_page read_after read_typed
 named-row = refl
 
 -- a service that the PAT has left is not asked for its PMT; without tables nothing is named
@@ -85,21 +85,21 @@ cat_in_run = Some (record {
 })
 
 cat-rows : map current_cat (cat_run ∷ next_run ∷ pmt_run ∷ []) ≡ cat_in_run ∷ None ∷ None ∷ []
-unfolding read_run read_sections read_section read_body read_heading read_fields read_loop read_last_loop table_reading.read_behind descriptors_from bits number_of read_number read_bytes read_rest field bit_of
+unfolding read_run read_sections read_section read_body read_heading read_fields read_loop read_last_loop table_reading.read_after descriptors_from bits number_of read_number read_bytes read_rest field bit_of
 cat-rows = refl
 
 last-row : last_found current_cat (cat_run ∷ next_run ∷ pmt_run ∷ []) ≡ cat_in_run
-unfolding last_found read_run read_sections read_section read_body read_heading read_fields read_loop read_last_loop table_reading.read_behind descriptors_from bits number_of read_number read_bytes read_rest field bit_of
+unfolding last_found read_run read_sections read_section read_body read_heading read_fields read_loop read_last_loop table_reading.read_after descriptors_from bits number_of read_number read_bytes read_rest field bit_of
 last-row = refl
 
 -- a packet is taken where more than one stands up to it: all but the first
 taken-row : taken_where {X = ℕ} (λ upto x. nat_lt 1 (length upto)) (5 ∷ 6 ∷ 7 ∷ []) ≡ 6 ∷ 7 ∷ []
-unfolding taken_behind
+unfolding taken_after
 taken-row = refl
 
 -- it is asked with all up to it, those too that were not taken
-taken-behind-row : taken_behind {X = ℕ} (λ upto x. nat_lt (length upto) 3) (1 ∷ []) (5 ∷ 6 ∷ []) ≡ 5 ∷ []
-unfolding taken_behind
+taken-behind-row : taken_after {X = ℕ} (λ upto x. nat_lt (length upto) 3) (1 ∷ []) (5 ∷ 6 ∷ []) ≡ 5 ∷ []
+unfolding taken_after
 taken-behind-row = refl
 
 -- a PAT of version 4 with service 1 on PID 4096, and one that takes its place
@@ -116,7 +116,7 @@ contents-row = refl
 
 -- of tables none of which is a current PAT none is in force; of two the last one is
 pat-in-force : map (λ pat. services_in pat) (last_found current_pat (cat_run ∷ []) ∷ last_found current_pat (pat_run ∷ pat_run_2 ∷ cat_run ∷ []) ∷ []) ≡ [] ∷ ((1, 4097) ∷ []) ∷ []
-unfolding last_found read_run read_sections read_section read_body read_heading read_fields read_loop read_last_loop table_reading.read_behind descriptors_from bits number_of read_number read_bytes read_rest field bit_of read_field table_reading.read_items table_reading.read_next table_reading.read_item table_reading.read_described
+unfolding last_found read_run read_sections read_section read_body read_heading read_fields read_loop read_last_loop table_reading.read_after descriptors_from bits number_of read_number read_bytes read_rest field bit_of read_field table_reading.read_items table_reading.read_next table_reading.read_item table_reading.read_described
 pat-in-force = refl
 
 -- a current PMT of service 1 without components, which is none of service 2
@@ -124,5 +124,5 @@ abbrev pmt_of_1 : List (List ℕ)
 pmt_of_1 = (0x02 ∷ 0xB0 ∷ 0x0D ∷ 0x00 ∷ 0x01 ∷ 0xC1 ∷ 0x00 ∷ 0x00 ∷ 0xE1 ∷ 0x00 ∷ 0xF0 ∷ 0x00 ∷ 0x72 ∷ 0xA9 ∷ 0x5C ∷ 0xD9 ∷ []) ∷ []
 
 pmt-in-force : map (λ service. pids_of (current_pmt service pmt_of_1)) (1 ∷ 2 ∷ []) ≡ (256 ∷ []) ∷ [] ∷ []
-unfolding read_run read_sections read_section read_body read_heading read_fields read_loop read_last_loop table_reading.read_behind descriptors_from bits number_of read_number read_bytes read_rest field bit_of read_field table_reading.read_counted_loop table_reading.read_counted table_reading.read_items
+unfolding read_run read_sections read_section read_body read_heading read_fields read_loop read_last_loop table_reading.read_after descriptors_from bits number_of read_number read_bytes read_rest field bit_of read_field table_reading.read_counted_loop table_reading.read_counted table_reading.read_items
 pmt-in-force = refl

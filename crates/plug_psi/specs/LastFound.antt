@@ -8,12 +8,12 @@ newer old None = old
 newer old (Some x) = Some x
 
 -- what is found in the last of some tables in which something is found, or else what was found before
-abbrev pub found_behind : {X : Type 0} → (List (List ℕ) → Option X) → Option X → List (List (List ℕ)) → Option X
-found_behind found old tables = fold (λ o table. newer o (found table)) old tables
+abbrev pub found_after : {X : Type 0} → (List (List ℕ) → Option X) → Option X → List (List (List ℕ)) → Option X
+found_after found old tables = fold (λ o table. newer o (found table)) old tables
 
 -- what is found in the last table in which something is found
 unfoldable pub last_found : {X : Type 0} → (List (List ℕ) → Option X) → List (List (List ℕ)) → Option X
-last_found found tables = found_behind found None tables
+last_found found tables = found_after found None tables
 
 -- the last of some things
 abbrev pub last_one : {X : Type 0} → List X → Option X

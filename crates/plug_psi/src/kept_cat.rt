@@ -2,7 +2,7 @@
 
 ghost use Rattle.std.specs.Prelude.{◌≡◌, ℕ, List, false, IfOk, OnOk, option_map};
 ghost use Rattle.ts_psi.specs.CatTables.{cat_held};
-ghost use Rattle.plug_psi.specs.LastFound.{found_behind, newer};
+ghost use Rattle.plug_psi.specs.LastFound.{found_after, newer};
 ghost use Rattle.plug_psi.specs.CatInForce.{current_cat};
 
 use crate::current_table::read_current;
@@ -48,7 +48,7 @@ impl FollowsTables for KeptCat {
 
 /// Keeps the last current CAT among some tables, and returns whether there is one.
 fn keep_cats(alloc: Global, cat: &mut Option<Cat>, tables: &[TableRun]) -> Result<bool, AllocError>
-    ensures kept { OnOk result (option_map cat_held cat.new ≡ found_behind current_cat (option_map cat_held cat.old) tables.now) }
+    ensures kept { OnOk result (option_map cat_held cat.new ≡ found_after current_cat (option_map cat_held cat.old) tables.now) }
     ensures same { IfOk result (λ came. came ≡ false → cat.new ≡ cat.old) }
 {
     let mut came = false;

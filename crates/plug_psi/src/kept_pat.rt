@@ -2,7 +2,7 @@
 
 ghost use Rattle.std.specs.Prelude.{◌≡◌, ℕ, List, false, IfOk, OnOk, option_map};
 ghost use Rattle.ts_psi.specs.PatTables.{pat_held};
-ghost use Rattle.plug_psi.specs.LastFound.{found_behind, newer};
+ghost use Rattle.plug_psi.specs.LastFound.{found_after, newer};
 ghost use Rattle.plug_psi.specs.InForce.{current_pat};
 
 use crate::current_pat::CurrentPat;
@@ -44,7 +44,7 @@ impl FollowsTables for CurrentPat {
 
 /// Keeps the last current PAT among some tables, and returns whether there is one.
 fn keep_pats(alloc: Global, pat: &mut CurrentPat, tables: &[TableRun]) -> Result<bool, AllocError>
-    ensures kept { OnOk result (option_map pat_held pat.new ≡ found_behind current_pat (option_map pat_held pat.old) tables.now) }
+    ensures kept { OnOk result (option_map pat_held pat.new ≡ found_after current_pat (option_map pat_held pat.old) tables.now) }
     ensures same { IfOk result (λ came. came ≡ false → pat.new ≡ pat.old) }
 {
     let mut came = false;

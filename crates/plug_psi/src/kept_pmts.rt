@@ -3,7 +3,7 @@
 ghost use Rattle.std.specs.Prelude.{◌≡◌, ℕ, List, false, IfOk, OnOk, nat_eq, option_map};
 ghost use Rattle.indexmap.specs.IndexMap.{get};
 ghost use Rattle.ts_psi.specs.PsiTables.{pmt_held};
-ghost use Rattle.plug_psi.specs.LastFound.{found_behind, newer};
+ghost use Rattle.plug_psi.specs.LastFound.{found_after, newer};
 ghost use Rattle.plug_psi.specs.InForce.{current_pmt};
 
 use crate::current_table::read_current;
@@ -55,7 +55,7 @@ impl FollowsTables for KeptPmts {
 /// Keeps the current PMTs among some tables, each in place of the one of its service, and returns whether there is one.
 fn keep_pmts(alloc: Global, pmts: &mut Pmts, tables: &[TableRun]) -> Result<bool, AllocError>
     ensures kept { OnOk result ((service : ℕ) → option_map pmt_held (get nat_eq pmts.new service)
-        ≡ found_behind (current_pmt service) (option_map pmt_held (get nat_eq pmts.old service)) tables.now) }
+        ≡ found_after (current_pmt service) (option_map pmt_held (get nat_eq pmts.old service)) tables.now) }
     ensures same { IfOk result (λ came. came ≡ false → pmts.new.entries ≡ pmts.old.entries) }
 {
     let mut came = false;

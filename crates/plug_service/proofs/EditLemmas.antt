@@ -8,14 +8,14 @@ use Rattle.ts_demux.specs.TablesOn.{packets_on}
 use Rattle.ts_demux.proofs.TakenLemmas.{with_if}
 use Rattle.plug_psi.specs.ByPid.{AllStand}
 use Rattle.plug_psi.specs.ReadingState.{Reads}
-use Rattle.plug_service.specs.Fates.{fate_after}
+use Rattle.plug_service.specs.Actions.{action_after}
 use Rattle.plug_service.specs.ServiceRule.{is_edited}
 use Rattle.plug_service.specs.EditorsState.{EditorsStand, EditsPats, EditsPmts, EditsSdts}
 use Rattle.plug_service.specs.declared.way.Way.{Way}
-use Rattle.plug_service.specs.declared.fate.Fate.{Fate}
-use Rattle.plug_service.specs.declared.fate.Fate.TheVariants.{EditPat}
+use Rattle.plug_service.specs.declared.action.Action.{Action}
+use Rattle.plug_service.specs.declared.action.Action.TheVariants.{EditPat}
 use Rattle.plug_service.specs.declared.editors.Editors.{Editors}
-use Rattle.plug_service.proofs.FateLemmas.{edits_pat, edits_sdt, fixed_pids}
+use Rattle.plug_service.proofs.ActionLemmas.{edits_pat, edits_sdt, fixed_pids}
 
 -- on a PID all of whose packets are taken
 on-more : (pid : ℕ) (met : List (List ℕ)) (p : List ℕ) → packets_on pid (met ++ p ∷ []) ≡ with_if (pid_of p == pid) (packets_on pid met) p
@@ -26,19 +26,19 @@ on-more pid met p = filter-append (λ packet. pid_of packet == pid) met (p ∷ [
     by false front = append-nil front
 
 -- a packet that is edited as one of PATs is on PID 0
-pub on_zero : (way : Way) (service : ℕ) (met : List (List ℕ)) (p : List ℕ) → EditPat ≡ fate_after way service (met ++ p ∷ []) (pid_of p) → pid_of p ≡ 0
+pub on_zero : (way : Way) (service : ℕ) (met : List (List ℕ)) (p : List ℕ) → EditPat ≡ action_after way service (met ++ p ∷ []) (pid_of p) → pid_of p ≡ 0
 on_zero way service met p e = eqb-true (pid_of p) 0 (fixed_pids way service (met ++ p ∷ []) (pid_of p) EditPat e).0
 
 -- the editors behind one packet more, by its fate
 pub editors-next :
-    (way : Way) (service : ℕ) (old new : Editors) (met : List (List ℕ)) (p : List ℕ) (fate : Fate) →
-    fate ≡ fate_after way service (met ++ p ∷ []) (pid_of p) → EditorsStand way service old met → new.alone.service ≡ old.alone.service →
-    EditsPats way service new.pat 0 (with_if (edits_pat fate) (packets_on 0 met) p) →
-    Reads (EditsSdts way service) new.sdt 17 (with_if (edits_sdt fate) (packets_on 17 met) p) →
+    (way : Way) (service : ℕ) (old new : Editors) (met : List (List ℕ)) (p : List ℕ) (action : Action) →
+    action ≡ action_after way service (met ++ p ∷ []) (pid_of p) → EditorsStand way service old met → new.alone.service ≡ old.alone.service →
+    EditsPats way service new.pat 0 (with_if (edits_pat action) (packets_on 0 met) p) →
+    Reads (EditsSdts way service) new.sdt 17 (with_if (edits_sdt action) (packets_on 17 met) p) →
     AllStand (Reads (EditsPmts new.alone.service)) new.pmts (is_edited way service) (met ++ p ∷ []) →
     EditorsStand way service new (met ++ p ∷ [])
-editors-next way service old new met p fate e h same pats sdts pmts =
-    let fixed = fixed_pids way service (met ++ p ∷ []) (pid_of p) fate e in
+editors-next way service old new met p action e h same pats sdts pmts =
+    let fixed = fixed_pids way service (met ++ p ∷ []) (pid_of p) action e in
     record {
       same_service = same ∙ h.same_service;
       pats = subst (EditsPats way service new.pat 0) (sym (on-more 0 met p ∙ ap (λ b. with_if b (packets_on 0 met) p) fixed.0)) pats;

@@ -1,4 +1,4 @@
-pub mod FateLemmas
+pub mod ActionLemmas
 pub mod EditLemmas
 pub mod PartLemmas
 pub mod FlagLemmas

@@ -1,10 +1,10 @@
 -- The definitions of `zap` and `svremove`: their options, the fates of packets by PID, and the edits of tables.
 pub use Rattle.plug_psi.specs.ServicePids
 pub use Rattle.plug_psi.specs.PidFlags
-pub mod Fates
+pub mod Actions
 pub mod ServiceEdits
 pub mod ServiceRule
-pub mod FatesState
+pub mod ActionsState
 pub mod EditorsState
 pub mod ServiceState
 pub mod ServiceSettings

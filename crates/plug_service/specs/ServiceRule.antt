@@ -7,25 +7,25 @@ use Rattle.ts_packet.specs.Header.{pid_of}
 use Rattle.ts_demux.specs.TablesOn.{packets_on}
 use Rattle.ts_demux.specs.TakenWhere.{taken_on}
 use Rattle.chain_model.specs.PluginRule.{PluginRule}
-use Rattle.plugin_trait.specs.Fates.{fate}
+use Rattle.plugin_trait.specs.Actions.{action}
 use Rattle.plugin_trait.specs.SilentRule.{silent_rule}
 use Rattle.plug_psi.specs.EditedCycles.{replaced}
-use Rattle.plug_service.specs.Fates.{edits_pmt, fate_after}
+use Rattle.plug_service.specs.Actions.{edits_pmt, action_after}
 use Rattle.plug_service.specs.ServiceEdits.{pat_change, sdt_change, pmt_change}
 use Rattle.plug_service.specs.declared.way.Way.{Way}
 use Rattle.plug_service.specs.declared.way.Way.TheVariants.{Keep, Remove}
-use Rattle.plug_service.specs.declared.fate.Fate.{Fate}
-use Rattle.plug_service.specs.declared.fate.Fate.TheVariants.{EditPat, EditSdt, EditPmt, Pass, Drop}
+use Rattle.plug_service.specs.declared.action.Action.{Action}
+use Rattle.plug_service.specs.declared.action.Action.TheVariants.{EditPat, EditSdt, EditPmt, Pass, Drop}
 use Rattle.plug_service.specs.declared.service_conf.ServiceConf.{ServiceConf}
 
 -- Whether the packets of a PID are edited as those of the service's PMT at the last of some packets of any PID: the service
 -- that is kept has its PMT there. The packets on the PID for which this holds are those that the edit of PMTs takes. On
 -- PID 0 and PID 17 all packets are taken, and on PID 8191 none.
 abbrev pub is_edited : Way → ℕ → ℕ → List (List ℕ) → Bool
-is_edited way service pid packets = edits_pmt (fate_after way service packets pid)
+is_edited way service pid packets = edits_pmt (action_after way service packets pid)
 
 -- the packet in place of another, by what becomes of that one, after the packets before; none if it does not pass
-abbrev pub made_by : Way → ℕ → Fate → List (List ℕ) → List ℕ → Option (List ℕ)
+abbrev pub made_by : Way → ℕ → Action → List (List ℕ) → List ℕ → Option (List ℕ)
 made_by way service EditPat before packet = Some (replaced 0 (pat_change way service) (packets_on 0 before) packet)
 made_by way service EditSdt before packet = Some (replaced 17 (sdt_change way service) (packets_on 17 before) packet)
 made_by way service EditPmt before packet =
@@ -36,12 +36,12 @@ made_by way service Drop before packet = None
 -- the packet in place of another, after the packets before
 abbrev pub made_of : Way → ℕ → List (List ℕ) → List ℕ → Option (List ℕ)
 made_of way service before packet =
-    made_by way service (fate_after way service (before ++ packet ∷ []) (pid_of packet)) before packet
+    made_by way service (action_after way service (before ++ packet ∷ []) (pid_of packet)) before packet
 
 -- a service is kept alone, or removed; a packet that does not pass is dropped, or becomes a null packet
 abbrev pub service_rule : Way → ℕ → Bool → PluginRule
 service_rule way service stuffing = silent_rule (λ history packet.
-    fate stuffing (made_of way service (live_packets history) packet))
+    action stuffing (made_of way service (live_packets history) packet))
 
 -- the rule of `zap`
 abbrev pub zap_rule : ServiceConf → PluginRule

@@ -4,6 +4,6 @@ use Rattle.std.specs.Prelude.{◌<◌}
 use Rattle.plug_service.specs.declared.service_conf.ServiceConf.{ServiceConf}
 
 -- the number is that of a service
-pub record IsLawfulService (c : ServiceConf) : Type 0 where
+pub record IsValidService (c : ServiceConf) : Type 0 where
   pub named : 0 < c.service
   pub below : c.service < 65536

@@ -2,7 +2,7 @@
 -- This project's own rule: once memory ran out it stands for none.
 use Rattle.std.specs.Prelude.{◌≡◌, ℕ, false, List}
 use Rattle.chain_model.specs.PluginRule.{PluginRule}
-use Rattle.plug_service.specs.FatesState.{FollowsService}
+use Rattle.plug_service.specs.ActionsState.{FollowsService}
 use Rattle.plug_service.specs.EditorsState.{EditorsStand}
 use Rattle.plug_service.specs.ServiceRule.{service_rule}
 use Rattle.plug_service.specs.declared.way.Way.{Way}

@@ -2,10 +2,10 @@
 -- This project's own rule.
 use Rattle.std.specs.Prelude.{ℕ, List, [], ◌∷◌, codes, true, unwrap_or}
 use Rattle.clap.specs.Walk.{Row}
-use Rattle.option_words.specs.Forms.{number}
-use Rattle.option_words.specs.Number.{number_within}
-use Rattle.option_words.specs.Options.{OptionRow, flag, has_flag, has_value, operand, read_value}
-use Rattle.option_words.specs.OptionTable.{OptionTable}
+use Rattle.plugin_options.specs.Forms.{number}
+use Rattle.plugin_options.specs.Number.{number_within}
+use Rattle.plugin_options.specs.Options.{OptionRow, flag, has_flag, has_value, operand, read_value}
+use Rattle.plugin_options.specs.OptionTable.{OptionTable}
 use Rattle.plug_service.specs.declared.limits.TheConstants.{LAST_SERVICE}
 use Rattle.plug_service.specs.declared.service_conf.ServiceConf.{ServiceConf}
 

@@ -4,12 +4,12 @@ ghost use Rattle.std.specs.Prelude.{◌≡◌, ℕ, ◌++◌, ◌∷◌, [], Lis
 ghost use Rattle.ts_demux.specs.TablesOn.{Completes, packets_on};
 ghost use Rattle.ts_packet.specs.Header.{pid_of};
 ghost use Rattle.plug_psi.specs.ForceStands.{StandsFor as Forced, pats_in};
-ghost use Rattle.plug_service.specs.Fates.{fate_after};
-ghost use Rattle.plug_service.specs.FatesState.{IsEditable};
+ghost use Rattle.plug_service.specs.Actions.{action_after};
+ghost use Rattle.plug_service.specs.ActionsState.{IsEditable};
 ghost use Rattle.plug_service.specs.ServiceRule.{made_by};
 ghost use Rattle.plug_service.specs.EditorsState.{left_by};
 
-use crate::fate::Fate;
+use crate::action::Action;
 use crate::limits::{PAT_PID, SDT_PID};
 use crate::pat_part::PatPart;
 use crate::pmt_alone::PmtAlone;
@@ -68,17 +68,17 @@ impl Editors {
         &mut self,
         alloc: Global,
         at: u64,
-        fate: Fate,
+        action: Action,
         force: &mut InForce,
         packet: &mut Packet,
     ) -> Result<bool, AllocError>
-        requires { IsEditable fate (pid_of packet.old) }
+        requires { IsEditable action (pid_of packet.old) }
         ensures made { IfOk result (λ passes. (way : Way) (service : ℕ) (met : List (List ℕ)) → EditorsStand way service self.old met
-            → fate ≡ fate_after way service (met ++ packet.old ∷ []) (pid_of packet.old)
+            → action ≡ action_after way service (met ++ packet.old ∷ []) (pid_of packet.old)
             → (pid_of packet.old ≡ 0 → Completes 0 (packets_on 0 met) packet.old (pats_in force.old))
-            → left_by passes packet.new ≡ made_by way service fate met packet.old) }
+            → left_by passes packet.new ≡ made_by way service action met packet.old) }
         ensures stands { OnOk result ((way : Way) (service : ℕ) (met : List (List ℕ)) → EditorsStand way service self.old met
-            → fate ≡ fate_after way service (met ++ packet.old ∷ []) (pid_of packet.old)
+            → action ≡ action_after way service (met ++ packet.old ∷ []) (pid_of packet.old)
             → (pid_of packet.old ≡ 0 → Completes 0 (packets_on 0 met) packet.old (pats_in force.old))
             → EditorsStand way service self.new (met ++ packet.old ∷ [])) }
         ensures force { OnOk result ((fed : List (List ℕ)) → Forced force.old fed → Forced force.new fed) }
@@ -86,25 +86,25 @@ impl Editors {
     {
         // A law, which runs nothing.
         unfollowed_packets_change_nothing::<PmtEditor>();
-        match fate {
-            Fate::EditPat => {
+        match action {
+            Action::EditPat => {
                 let tables = force.take_pats();
                 let pat = self.pat.take(alloc, tables, packet)?;
                 *packet = pat;
                 Ok(true)
             }
-            Fate::EditSdt => {
+            Action::EditSdt => {
                 let sdt = self.sdt.take(alloc, at, (), packet)?;
                 *packet = sdt;
                 Ok(true)
             }
-            Fate::EditPmt => {
+            Action::EditPmt => {
                 let pmt = self.pmts.take(alloc, at, &self.alone, (), packet)?;
                 *packet = pmt;
                 Ok(true)
             }
-            Fate::Pass => Ok(true),
-            Fate::Drop => Ok(false),
+            Action::Pass => Ok(true),
+            Action::Drop => Ok(false),
         }
     }
 }

@@ -3,11 +3,11 @@
 //! from the words, makes each plugin from its settings, and uses it by the clauses of `Plugin`.
 #![tactic(auto)]
 
+mod action;
 mod editors;
-mod fate;
 mod limits;
 mod pat_part;
-mod pid_fates;
+mod pid_actions;
 mod pmt_alone;
 mod sdt_part;
 mod service_conf;

@@ -108,9 +108,9 @@ impl ServiceSteps {
         ensures stuffing { self.new.stuffing ≡ self.old.stuffing }
         ensures failed { self.new.failed ≡ self.old.failed }
     {
-        let fate = self.follower.meet(self.alloc, at, packet)?;
+        let action = self.follower.meet(self.alloc, at, packet)?;
         let force = &mut self.follower.force;
-        let passes = self.editors.edit(self.alloc, at, fate, force, packet)?;
+        let passes = self.editors.edit(self.alloc, at, action, force, packet)?;
         Ok(passes)
     }
 }
@@ -124,7 +124,7 @@ impl Steps for ServiceSteps {
 
     ghost stands_for = { λ s history. StandsFor s (live_packets history) };
 
-    ghost steady = { λ _. None };
+    ghost preallocated = { λ _. None };
 
     #[inline]
     fn step(&mut self, at: u64, packet: &mut Packet, _labels: &mut Labels) -> Outcome {

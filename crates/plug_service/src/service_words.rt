@@ -1,22 +1,22 @@
 //! The options of `zap` and `svremove`, which have the same ones, and their settings from the values.
 
 ghost use Rattle.std.specs.Prelude.{◌≡◌, ◌≤◌, IfOk, MatchResult, codes, false, true};
-ghost use Rattle.option_words.specs.Forms.{number};
-ghost use Rattle.option_words.specs.Options.{is_formed};
-ghost use Rattle.option_words.specs.Refusal.{IsRefusedBy, ReadsParsed};
-ghost use Rattle.option_words.specs.declared.words_rule.WordsRule.TheVariants.{Value};
-ghost use Rattle.plug_service.specs.ServiceSettings.{IsLawfulService};
+ghost use Rattle.plugin_options.specs.Forms.{number};
+ghost use Rattle.plugin_options.specs.Options.{is_formed};
+ghost use Rattle.plugin_options.specs.Refusal.{IsRefusedBy, ReadsParsed};
+ghost use Rattle.plugin_options.specs.declared.words_rule.WordsRule.TheVariants.{Value};
+ghost use Rattle.plug_service.specs.ServiceSettings.{IsValidService};
 ghost use Rattle.plug_service.specs.ServiceWords.{service_found, service_options};
 ghost use Rattle.plug_service.specs.declared.limits.TheConstants.{LAST_SERVICE};
 
 use crate::limits::LAST_SERVICE;
 use crate::service_conf::ServiceConf;
-use option_words::{ParsedOptions, Refusal, WordsRule};
+use plugin_options::{ParsedOptions, Refusal, WordsRule};
 
 /// Reads the settings of either plugin from what its command found in the words.
 pub(crate) fn service_settings(found: &ParsedOptions) -> Result<ServiceConf, Refusal>
     ensures reads { ReadsParsed service_options found.now result }
-    ensures lawful { IfOk result IsLawfulService }
+    ensures valid { IfOk result IsValidService }
 {
     if !found.has_value("operand") {
         return Err(Refusal::Broken(WordsRule::Missing));

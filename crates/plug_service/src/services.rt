@@ -5,8 +5,8 @@ ghost use Rattle.std.specs.List.{filter_map};
 ghost use Rattle.std.specs.Option.{option_copied};
 ghost use Rattle.ts_psi.specs.PatTables.{pat_held, service_item};
 ghost use Rattle.plug_psi.specs.InForce.{service_in};
-ghost use Rattle.plug_service.specs.Fates;
-ghost use Rattle.plug_service.specs.Fates.{is_shared_at};
+ghost use Rattle.plug_service.specs.Actions;
+ghost use Rattle.plug_service.specs.Actions.{is_shared_at};
 ghost use Rattle.plug_service.specs.ServiceEdits;
 
 use crate::way::Way;
@@ -40,7 +40,7 @@ fn entries_on(services: &[PatService], at: u16) -> usize
 
 /// Whether a PID is given, and it is this one.
 pub(crate) fn is_at(told: Option<u16>, pid: u16) -> bool
-    ensures { result ≡ Fates.is_at told pid }
+    ensures { result ≡ Actions.is_at told pid }
 {
     match told {
         Some(told) => told == pid,

@@ -2,7 +2,7 @@
 
 ghost use Rattle.std.specs.Prelude.{◌≡◌, [], None, IfOk};
 ghost use Rattle.plug_service.specs.ServiceRule.{svremove_rule};
-ghost use Rattle.plug_service.specs.ServiceSettings.{IsLawfulService};
+ghost use Rattle.plug_service.specs.ServiceSettings.{IsValidService};
 
 use crate::service_conf::ServiceConf;
 use crate::service_steps::ServiceSteps;
@@ -25,10 +25,10 @@ pub fn new_svremove(
     conf: &ServiceConf,
     _buffer: usize,
 ) -> Result<Svremove, AllocError>
-    requires { IsLawfulService conf.now }
+    requires { IsValidService conf.now }
     ensures rule { IfOk result (λ plugin. ⟦<Svremove as Plugin>⟧.rule plugin ≡ svremove_rule conf.now) }
     ensures fresh { IfOk result (λ plugin. ⟦<Svremove as Plugin>⟧.stands_for plugin [] 0) }
-    ensures steady { IfOk result (λ plugin. ⟦<Svremove as Plugin>⟧.steady plugin ≡ None) }
+    ensures preallocated { IfOk result (λ plugin. ⟦<Svremove as Plugin>⟧.preallocated plugin ≡ None) }
 {
     Ok(Silent {
         steps: ServiceSteps::new(alloc, Way::Remove, conf.service as u16, conf.stuffing)?,

@@ -2,7 +2,7 @@
 
 ghost use Rattle.std.specs.Prelude.{◌≡◌, [], None, IfOk};
 ghost use Rattle.plug_service.specs.ServiceRule.{zap_rule};
-ghost use Rattle.plug_service.specs.ServiceSettings.{IsLawfulService};
+ghost use Rattle.plug_service.specs.ServiceSettings.{IsValidService};
 
 use crate::service_conf::ServiceConf;
 use crate::service_steps::ServiceSteps;
@@ -21,10 +21,10 @@ pub type Zap = Silent<ServiceSteps>;
 /// A new `zap`, which has processed no packet. Its steps allocate memory. If a step runs out of memory, every later one does
 /// too.
 pub fn new_zap(alloc: Global, conf: &ServiceConf, _buffer: usize) -> Result<Zap, AllocError>
-    requires { IsLawfulService conf.now }
+    requires { IsValidService conf.now }
     ensures rule { IfOk result (λ plugin. ⟦<Zap as Plugin>⟧.rule plugin ≡ zap_rule conf.now) }
     ensures fresh { IfOk result (λ plugin. ⟦<Zap as Plugin>⟧.stands_for plugin [] 0) }
-    ensures steady { IfOk result (λ plugin. ⟦<Zap as Plugin>⟧.steady plugin ≡ None) }
+    ensures preallocated { IfOk result (λ plugin. ⟦<Zap as Plugin>⟧.preallocated plugin ≡ None) }
 {
     Ok(Silent {
         steps: ServiceSteps::new(alloc, Way::Keep, conf.service as u16, conf.stuffing)?,

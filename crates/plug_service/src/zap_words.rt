@@ -3,10 +3,10 @@
 use crate::limits::LAST_SERVICE;
 use crate::service_words::service_settings;
 use crate::zap_conf::ZapConf;
-use option_words::{
+use plugin_entry::{PluginHelp, PluginSettings};
+use plugin_options::{
     Beside, Need, OptionRow, OptionText, OptionWord, ParsedOptions, Refusal, Takes,
 };
-use plugin_entry::{PluginHelp, PluginSettings};
 use std::alloc::Global;
 
 // The options of `zap`.

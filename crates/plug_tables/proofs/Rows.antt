@@ -1,6 +1,6 @@
 -- Worked rows of `tables`, computed on the definitions.
 use Rattle.std.proofs.Common.{◌≡◌, ℕ, ◌&&◌, true, false, List, [], ◌∷◌, refl}
-use Rattle.bit_rows.specs.BitRow.{bit_of, field}
+use Rattle.ts_bit_rows.specs.BitRow.{bit_of, field}
 use Rattle.plug_psi.specs.InForce.{names, pat_of}
 use Rattle.plug_tables.specs.TablesRule.{choice_of, is_told}
 use Rattle.plug_tables.specs.WatchedPackets.{is_watched, usual}

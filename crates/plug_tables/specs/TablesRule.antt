@@ -9,7 +9,7 @@ use Rattle.ts_section.specs.SectionFields.{table_id_of}
 use Rattle.ts_json_tables.specs.RunTables.{table_of_run}
 use Rattle.ts_json_tables.specs.TableElements.{table_shown}
 use Rattle.chain_model.specs.PluginRule.{PluginRule, passes}
-use Rattle.plug_conf.specs.Selection.{is_selected}
+use Rattle.plugin_options.specs.Selection.{is_selected}
 use Rattle.plug_tables.specs.declared.tables_conf.TablesConf.{TablesConf}
 use Rattle.plug_tables.specs.WatchedPackets.{Choice, tables_with, usual}
 

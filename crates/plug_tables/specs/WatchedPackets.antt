@@ -3,7 +3,7 @@
 use Rattle.std.specs.Prelude.{ℕ, List, [], ◌∷◌, ◌++◌, length, drop, Bool, true, not, ◌==◌, ◌&&◌, ◌||◌}
 use Rattle.ts_packet.specs.Header.{pid_of}
 use Rattle.ts_packet.specs.declared.numbers.TheConstants.{NULL_PID}
-use Rattle.plug_conf.specs.NumberSet.{has_number}
+use Rattle.plugin_options.specs.NumberSet.{has_number}
 use Rattle.ts_demux.specs.TablesOn.{tables_on}
 use Rattle.ts_demux.specs.TakenWhere.{taken_on}
 use Rattle.plug_psi.specs.InForce.{names, pat_of}

@@ -2,8 +2,8 @@
 ghost use Rattle.std.specs.Prelude.{◌≡◌, ◌<◌, ◌==◌, ◌∷◌, ◌++◌, ℕ, [], List, IfOk, OnOk, length, true, false, if◌then◌else◌};
 ghost use Rattle.plug_tables.specs.TablesRule.{choice_of};
 
-use plug_conf::{NumberSet, PidSet};
 use plug_psi::{ByPid, Changes, InForce, unfollowed_packets_change_nothing};
+use plugin_options::{NumberSet, PidSet};
 use std::alloc::{AllocError, Global};
 use ts_demux::PidTables;
 use ts_packet::{NULL_PID, PID_COUNT, Packet};

@@ -7,8 +7,8 @@ ghost use Rattle.plug_tables.specs.TablesState.{StartsFrom};
 use crate::table_reader::TableReader;
 use crate::tables_conf::TablesConf;
 use crate::telling::tell_tables;
-use plug_conf::NumberSet;
 use plug_psi::{Changes, FailureLatch};
+use plugin_options::NumberSet;
 use plugin_trait::{Line, Outcome, Plugin};
 use std::alloc::{AllocError, Global};
 use std::collections::VecDeque;
@@ -34,15 +34,15 @@ impl Tables {
     ghost use Rattle.ts_packet.specs.declared.cell.Cell.{Cell as GivenCell};
     ghost use Rattle.ts_packet.specs.Cells.{Live};
     ghost use Rattle.plug_tables.specs.TablesRule.{tables_rule};
-    ghost use Rattle.plug_tables.specs.TablesSettings.{IsLawfulTables};
+    ghost use Rattle.plug_tables.specs.TablesSettings.{IsValidTables};
     ghost use Rattle.plug_tables.specs.TablesStands.{StandsFor, has_failed, rule_in};
 
     /// A new plugin, which has processed no cell. What is kept of the tables grows with the stream.
     pub fn new(alloc: Global, conf: &TablesConf, buffer: usize) -> Result<Tables, AllocError>
-        requires { IsLawfulTables conf.now }
+        requires { IsValidTables conf.now }
         ensures rule { IfOk result (λ plugin. ⟦<Tables as Plugin>⟧.rule plugin ≡ tables_rule conf.now) }
         ensures fresh { IfOk result (λ plugin. ⟦<Tables as Plugin>⟧.stands_for plugin [] 0) }
-        ensures steady { IfOk result (λ plugin. ⟦<Tables as Plugin>⟧.steady plugin ≡ None) }
+        ensures preallocated { IfOk result (λ plugin. ⟦<Tables as Plugin>⟧.preallocated plugin ≡ None) }
     {
         let _ = buffer;
         let tids = NumberSet::of(Vec::from_slice(alloc, conf.tid.as_slice())?);
@@ -141,7 +141,7 @@ impl Plugin for Tables {
 
     ghost stands_for = { λ s history mark. (has_failed s ≡ false → StandsFor s history mark) × (mark ≤ length history) };
 
-    ghost steady = { λ _. None };
+    ghost preallocated = { λ _. None };
 
     #[inline]
     fn step(&mut self, at: u64, packet: &mut Packet, _labels: &mut Labels) -> Outcome {

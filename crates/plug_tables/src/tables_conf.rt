@@ -1,6 +1,6 @@
 //! The settings of `tables`.
 
-use plug_conf::NumberSet;
+use plugin_options::NumberSet;
 
 /// Settings of `tables`, which reports the tables of a stream.
 #[derive(Drop)]

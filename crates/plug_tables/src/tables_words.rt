@@ -1,17 +1,16 @@
 //! The options of `tables`, and its settings from their values.
 
 ghost use Rattle.std.specs.Prelude.{◌≡◌, IfOk};
-ghost use Rattle.plug_tables.specs.TablesSettings.{IsLawfulTables};
+ghost use Rattle.plug_tables.specs.TablesSettings.{IsValidTables};
 ghost use Rattle.plug_tables.specs.TablesWords.{tables};
-ghost use Rattle.option_words.specs.Refusal.{ReadsParsed};
+ghost use Rattle.plugin_options.specs.Refusal.{ReadsParsed};
 
 use crate::limits::LAST_TABLE_ID;
 use crate::tables_conf::TablesConf;
-use option_words::{
-    Beside, Need, OptionRow, OptionText, OptionWord, ParsedOptions, Refusal, Takes,
-};
-use plug_conf::LAST_PID;
 use plugin_entry::{PluginHelp, PluginSettings};
+use plugin_options::{
+    Beside, LAST_PID, Need, OptionRow, OptionText, OptionWord, ParsedOptions, Refusal, Takes,
+};
 use std::alloc::Global;
 
 // The options of `tables`.
@@ -39,7 +38,7 @@ static TABLES: [OptionRow; 2] = [
 // Reads the settings of `tables` from what its command found in the words.
 fn tables_settings(alloc: Global, found: &ParsedOptions) -> Result<TablesConf, Refusal>
     ensures reads { ReadsParsed tables found.now result }
-    ensures lawful { IfOk result IsLawfulTables }
+    ensures valid { IfOk result IsValidTables }
 {
     Ok(TablesConf {
         pid: found.ranges(alloc, "pid", LAST_PID)?,

@@ -3,12 +3,12 @@ ghost use Rattle.std.specs.Prelude.{◌≡◌, ◌++◌, ◌∷◌, [], IfOk, On
 ghost use Rattle.std.specs.String.{string_bytes};
 ghost use Rattle.serde_json.specs.Written.{compact_text};
 ghost use Rattle.ts_json_tables.specs.HeldTables.{table_value};
-ghost use Rattle.ts_json_tables.specs.LawfulTables.{IsTable};
+ghost use Rattle.ts_json_tables.specs.ValidTables.{IsTable};
 ghost use Rattle.ts_json_tables.specs.TableElements.{table_shown};
 ghost use Rattle.plugin_trait.specs.PlacedLines.{placed_at};
 ghost use Rattle.plug_tables.specs.TablesRule.{element_text, id_of, is_told, table_text, table_texts};
 
-use plug_conf::NumberSet;
+use plugin_options::NumberSet;
 use plugin_trait::{Line, LineText};
 use std::alloc::{AllocError, Global};
 use std::collections::VecDeque;

@@ -103,8 +103,8 @@ module _ (conf : CountConf) (notes : List Note) (tally : Tally) (history : List 
   -- if there is room up to a position, the notes are not full there
   pub not_full : (capacity room at : ℕ) (b : Bool) → (if b then None else Some capacity) ≡ Some room
       → length history ≡ at → at < mark + room → capacity ≤ length notes → ⊥
-  not_full capacity room at true steady count within full = cc
-  not_full capacity room at false steady count within full =
+  not_full capacity room at true preallocated count within full = cc
+  not_full capacity room at false preallocated count within full =
       let same : capacity ≡ room = cc in
       omega (arith, keeping.few_notes (note_on conf) place_of (one_note conf) notes history mark w.keeps, same, w.keeps.marked)
 

@@ -13,7 +13,7 @@ use Rattle.plugin_notes.specs.declared.continuity_error.ContinuityError.{Continu
 use Rattle.plugin_notes.specs.declared.last_packets.LastPackets.{LastPackets}
 use Rattle.plugin_notes.specs.Counters.{is_watched, is_fault, wanted_behind, last_of, fault_text}
 use Rattle.plug_watch.specs.ContinuityRule.{fault_behind, fault_on, continuity_rule}
-use Rattle.plugin_notes.specs.ContinuityErrors.{error_behind, error_on, line_of_error, place_of_error, text_of_error}
+use Rattle.plugin_notes.specs.ContinuityErrors.{error_after, error_on, line_of_error, place_of_error, text_of_error}
 use Rattle.plugin_notes.specs.Notes.{notes_after}
 use Rattle.plugin_notes.specs.NotesKept.{TakesBelow, notes_below}
 use Rattle.plugin_notes.proofs.Keeping as keeping
@@ -22,9 +22,9 @@ use Rattle.plug_watch.specs.ContinuitySeen.{Watches}
 use Rattle.plugin_notes.proofs.Remembering.{one_fault, remembers_dropped, remembers_other}
 
 -- the rule's line of a packet is that of its error
-texts_behind : (at : ℕ) (before : Option (List ℕ)) (packet : List ℕ) → fault_behind at before packet ≡ map text_of_error (error_behind at before packet)
-texts_behind at None packet = refl
-texts_behind at (Some before) packet =
+texts_after : (at : ℕ) (before : Option (List ℕ)) (packet : List ℕ) → fault_behind at before packet ≡ map text_of_error (error_after at before packet)
+texts_after at None packet = refl
+texts_after at (Some before) packet =
     let fault : ContinuityError = record { at = at; pid = pid_of packet; counter = counter_of packet; wanted = wanted_behind before packet } in
     elim (is_fault before packet) as (λ b. (if b then fault_text at (pid_of packet) (counter_of packet) (wanted_behind before packet) ∷ [] else []) ≡ map text_of_error (if b then fault ∷ [] else [])) [
       | true ↦ refl
@@ -34,8 +34,8 @@ texts_behind at (Some before) packet =
 texts_on : (conf : ContinuityConf) (history : List Cell) (packet : List ℕ) → fault_on conf history packet ≡ map text_of_error (error_on conf history packet)
 texts_on conf history packet =
     let last = last_of (pid_of packet) history in
-    elim (is_watched conf (pid_of packet)) as (λ b. (if b then fault_behind (length history) last packet else []) ≡ map text_of_error (if b then error_behind (length history) last packet else [])) [
-      | true ↦ texts_behind (length history) last packet
+    elim (is_watched conf (pid_of packet)) as (λ b. (if b then fault_behind (length history) last packet else []) ≡ map text_of_error (if b then error_after (length history) last packet else [])) [
+      | true ↦ texts_after (length history) last packet
       | false ↦ refl
     ]
 
@@ -79,7 +79,7 @@ module _ (conf : ContinuityConf) (last : LastPackets) (notes : List ContinuityEr
     pub watches_other : is_watched conf (pid_of packet) ≡ false → Watches conf last notes count (history ++ Live packet labels ∷ []) mark
     watches_other unwatched =
         watches_cell (Live packet labels) last notes few (remembers_other conf last history w.remembers packet labels unwatched)
-        (sym (ap (λ (b : Bool). notes ++ ((if b then error_behind (length history) (last_of (pid_of packet) history) packet else []) ++ [])) unwatched ∙ append-nil notes))
+        (sym (ap (λ (b : Bool). notes ++ ((if b then error_after (length history) (last_of (pid_of packet) history) packet else []) ++ [])) unwatched ∙ append-nil notes))
 
     -- a packet that is checked
     pub watches_live : (last_new : LastPackets) (notes_new faults : List ContinuityError)

@@ -14,8 +14,8 @@ abbrev pub StandsFor : Continuity → List Cell → ℕ → Type 0
 StandsFor s history mark = Watches (conf_of s) s.last s.notes.items s.fault_count history mark
 
 -- it names no number of positions at which it never runs out of memory, since its lines need memory at a mark
-abbrev pub steady_of : Continuity → Option ℕ
-steady_of s = None
+abbrev pub preallocated_of : Continuity → Option ℕ
+preallocated_of s = None
 
 -- for how many notes it has room
 abbrev pub room_of : Continuity → ℕ

@@ -6,7 +6,7 @@ use Rattle.ts_packet.specs.Header.{pid_of, counter_of, with_counter}
 use Rattle.chain_model.specs.PluginRule.{PluginRule, passes}
 use Rattle.plugin_notes.specs.declared.continuity_conf.ContinuityConf.{ContinuityConf}
 use Rattle.plugin_notes.specs.Notes.{notes_after}
-pub use Rattle.plugin_notes.specs.Counters.{is_watched, packets_of, is_duplicate, wanted_behind, is_fault, fault_text, last_behind, last_in, last_of, step_behind, steps_behind, right_counter}
+pub use Rattle.plugin_notes.specs.Counters.{is_watched, packets_of, is_duplicate, wanted_behind, is_fault, fault_text, last_after, last_in, last_of, step_after, steps_after, right_counter}
 
 -- the line of a packet at a position, after the packet before it on its PID, if its counter is a fault
 abbrev pub fault_behind : ℕ → Option (List ℕ) → List ℕ → List (List ℕ)

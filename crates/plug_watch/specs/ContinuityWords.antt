@@ -1,11 +1,11 @@
 -- The options of `continuity`. This project's own rule.
 use Rattle.std.specs.Prelude.{List, [], ◌∷◌, codes, true, unwrap_or}
 use Rattle.plugin_notes.specs.declared.continuity_conf.ContinuityConf.{ContinuityConf}
-use Rattle.plug_conf.specs.declared.limits.TheConstants.{LAST_PID}
-use Rattle.option_words.specs.Forms.{ranges}
-use Rattle.option_words.specs.Options.{OptionRow, flag, has_flag, read_value, value}
-use Rattle.option_words.specs.OptionTable.{OptionTable}
-use Rattle.option_words.specs.Ranges.{ranges_of}
+use Rattle.plugin_options.specs.declared.limits.TheConstants.{LAST_PID}
+use Rattle.plugin_options.specs.Forms.{ranges}
+use Rattle.plugin_options.specs.Options.{OptionRow, flag, has_flag, read_value, value}
+use Rattle.plugin_options.specs.OptionTable.{OptionTable}
+use Rattle.plugin_options.specs.Ranges.{ranges_of}
 
 -- the options
 abbrev pub continuity_rows : List OptionRow

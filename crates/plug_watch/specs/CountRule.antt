@@ -8,7 +8,7 @@ use Rattle.ts_packet.specs.Header.{pid_of}
 use Rattle.chain_model.specs.PluginRule.{PluginRule, passes}
 use Rattle.ts_packet.specs.declared.numbers.TheConstants.{PID_COUNT}
 use Rattle.plug_watch.specs.declared.count_conf.CountConf.{CountConf}
-use Rattle.plug_conf.specs.Selection.{is_selected}
+use Rattle.plugin_options.specs.Selection.{is_selected}
 pub use Rattle.plugin_notes.specs.PidPackets.{packets_on}
 unfoldable pub use Rattle.plugin_notes.specs.PidPackets.{numbers_below}
 

@@ -3,11 +3,11 @@ ghost use Rattle.std.specs.Prelude.{◌≡◌, IfOk, [], None};
 ghost use Rattle.plug_watch.specs.ContinuityRule.{continuity_rule};
 
 use circular_buffer::HeapCircularBuffer;
-use plug_conf::PidSet;
 use plugin_notes::{
     ContinuityConf, ContinuityError, LastPackets, drop_below, push_if_any, push_line,
     push_lines_below,
 };
+use plugin_options::PidSet;
 use plugin_trait::{Line, LineText, Outcome, Plugin};
 use std::alloc::{AllocError, Global};
 use ts_packet::{Labels, NULL_PID, PID_COUNT, Packet};
@@ -31,7 +31,7 @@ impl Continuity {
     ghost use Rattle.ts_packet.specs.Header.{pid_of};
     ghost use Rattle.chain_model.specs.declared.positions.TheConstants.{POSITION_LIMIT};
     ghost use Rattle.plugin_trait.specs.Steps.{MeetsCells};
-    ghost use Rattle.plug_watch.specs.ContinuitySettings.{IsLawfulContinuity};
+    ghost use Rattle.plug_watch.specs.ContinuitySettings.{IsValidContinuity};
     ghost use Rattle.plug_watch.specs.ContinuityRule.{continuity_rule, fixed};
     ghost use Rattle.plugin_notes.specs.Counters.{is_watched};
     ghost use Rattle.plug_watch.specs.ContinuityConfOf.{IsFull, StandsFor, conf_of, room_of};
@@ -43,10 +43,10 @@ impl Continuity {
         conf: &ContinuityConf,
         buffer: usize,
     ) -> Result<Continuity, AllocError>
-        requires { IsLawfulContinuity conf.now }
+        requires { IsValidContinuity conf.now }
         ensures rule { IfOk result (λ plugin. ⟦<Continuity as Plugin>⟧.rule plugin ≡ continuity_rule conf.now) }
         ensures fresh { IfOk result (λ plugin. ⟦<Continuity as Plugin>⟧.stands_for plugin [] 0) }
-        ensures steady { IfOk result (λ plugin. ⟦<Continuity as Plugin>⟧.steady plugin ≡ None) }
+        ensures preallocated { IfOk result (λ plugin. ⟦<Continuity as Plugin>⟧.preallocated plugin ≡ None) }
         ensures reserved { IfOk result (λ plugin. room_of plugin ≡ buffer) }
     {
         Ok(Continuity {
@@ -97,13 +97,13 @@ impl Plugin for Continuity {
     ghost use Rattle.plugin_trait.specs.Marks.{AllowsMark, GivesLines};
     ghost use Rattle.plugin_trait.specs.Steps.{HasRoom, Meets, MeetsCells, Tells, left_of};
     ghost use Rattle.plug_watch.specs.ContinuityRule.{continuity_rule};
-    ghost use Rattle.plug_watch.specs.ContinuityConfOf.{IsFull, StandsFor, conf_of, room_of, steady_of};
+    ghost use Rattle.plug_watch.specs.ContinuityConfOf.{IsFull, StandsFor, conf_of, room_of, preallocated_of};
 
     ghost rule = { λ s. continuity_rule (conf_of s) };
 
     ghost stands_for = { λ s history mark. StandsFor s history mark };
 
-    ghost steady = { λ s. steady_of s };
+    ghost preallocated = { λ s. preallocated_of s };
 
     /// The clauses are those of `Plugin`, whose ghost members have no names here, and two more: a step runs out of
     /// memory only where there is no room for one more note, and the room for notes stays the same.
@@ -116,8 +116,8 @@ impl Plugin for Continuity {
             (left_of result packet.new labels.new) }
         ensures meets { Meets (StandsFor self.old) (StandsFor self.new) at (Live packet.old labels.old) result }
         ensures same_rule { continuity_rule (conf_of self.new) ≡ continuity_rule (conf_of self.old) }
-        ensures same_steady { steady_of self.new ≡ steady_of self.old }
-        ensures room { HasRoom (steady_of self.old) (StandsFor self.old) at → result ≢ Outcome.NoMemory }
+        ensures same_preallocated { preallocated_of self.new ≡ preallocated_of self.old }
+        ensures room { HasRoom (preallocated_of self.old) (StandsFor self.old) at → result ≢ Outcome.NoMemory }
         ensures full { result ≡ Outcome.NoMemory → IsFull self.old }
         ensures reserved { room_of self.new ≡ room_of self.old }
     {
@@ -138,8 +138,8 @@ impl Plugin for Continuity {
         ensures gives { GivesLines (continuity_rule (conf_of self.old)) (StandsFor self.old) (StandsFor self.new) written
             lines.old.items lines.new.items result }
         ensures same_rule { continuity_rule (conf_of self.new) ≡ continuity_rule (conf_of self.old) }
-        ensures same_steady { steady_of self.new ≡ steady_of self.old }
-        ensures room { IsSome (steady_of self.old) → IsOk result }
+        ensures same_preallocated { preallocated_of self.new ≡ preallocated_of self.old }
+        ensures room { IsSome (preallocated_of self.old) → IsOk result }
         ensures reserved { room_of self.new ≡ room_of self.old }
     {
         push_lines_below(lines, &self.notes, written)?;

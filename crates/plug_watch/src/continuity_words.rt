@@ -1,16 +1,15 @@
 //! The options of `continuity`.
 ghost use Rattle.std.specs.Prelude.{◌≡◌, IfOk};
-ghost use Rattle.plug_watch.specs.ContinuitySettings.{IsLawfulContinuity};
+ghost use Rattle.plug_watch.specs.ContinuitySettings.{IsValidContinuity};
 ghost use Rattle.plug_watch.specs.ContinuityWords.{continuity};
-ghost use Rattle.option_words.specs.Refusal.{ReadsParsed};
+ghost use Rattle.plugin_options.specs.Refusal.{ReadsParsed};
 
 use crate::continuity_options::ContinuityOptions;
-use option_words::{
-    Beside, Need, OptionRow, OptionText, OptionWord, ParsedOptions, Refusal, Takes,
-};
-use plug_conf::LAST_PID;
 use plugin_entry::{PluginHelp, PluginSettings};
 use plugin_notes::ContinuityConf;
+use plugin_options::{
+    Beside, LAST_PID, Need, OptionRow, OptionText, OptionWord, ParsedOptions, Refusal, Takes,
+};
 use std::alloc::Global;
 
 // The options of `continuity`.
@@ -38,7 +37,7 @@ static CONTINUITY: [OptionRow; 2] = [
 // Reads the settings of `continuity` from the options that its command found.
 fn continuity_settings(alloc: Global, found: &ParsedOptions) -> Result<ContinuityConf, Refusal>
     ensures reads { ReadsParsed continuity found.now result }
-    ensures lawful { IfOk result IsLawfulContinuity }
+    ensures valid { IfOk result IsValidContinuity }
 {
     Ok(ContinuityConf {
         pid: found.ranges(alloc, "pid", LAST_PID)?,

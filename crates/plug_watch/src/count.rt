@@ -9,8 +9,8 @@ use crate::count_conf::CountConf;
 use crate::note::Note;
 use crate::summary::push_summary;
 use circular_buffer::HeapCircularBuffer;
-use plug_conf::PidSet;
 use plugin_notes::{Tally, pop_below, push_lines_below, push_note};
+use plugin_options::PidSet;
 use plugin_trait::{Line, Outcome, Plugin};
 use std::alloc::{AllocError, Global};
 use ts_packet::{Labels, Packet};
@@ -30,16 +30,16 @@ pub struct Count {
 
 impl Count {
     ghost use Rattle.std.specs.Prelude.{◌≡◌, IfOk, [], None, Some, if◌then◌else◌};
-    ghost use Rattle.plug_watch.specs.CountSettings.{IsLawfulCount};
+    ghost use Rattle.plug_watch.specs.CountSettings.{IsValidCount};
     ghost use Rattle.plug_watch.specs.CountRule.{count_rule};
 
     /// A new plugin, which has processed no cell. It allocates its tables, and room for notes on as many packets as
     /// the buffer holds.
     pub fn new(alloc: Global, conf: &CountConf, buffer: usize) -> Result<Count, AllocError>
-        requires { IsLawfulCount conf.now }
+        requires { IsValidCount conf.now }
         ensures rule { IfOk result (λ plugin. ⟦<Count as Plugin>⟧.rule plugin ≡ count_rule conf.now) }
         ensures fresh { IfOk result (λ plugin. ⟦<Count as Plugin>⟧.stands_for plugin [] 0) }
-        ensures steady { IfOk result (λ plugin. ⟦<Count as Plugin>⟧.steady plugin ≡ (if conf.now.all then None else Some buffer)) }
+        ensures preallocated { IfOk result (λ plugin. ⟦<Count as Plugin>⟧.preallocated plugin ≡ (if conf.now.all then None else Some buffer)) }
     {
         Ok(Count {
             pids: PidSet::of(alloc, &conf.pid)?,
@@ -90,7 +90,7 @@ impl Plugin for Count {
 
     ghost stands_for = { λ s history mark. StandsFor s history mark };
 
-    ghost steady = { λ s. if s.all then None else Some s.notes.capacity };
+    ghost preallocated = { λ s. if s.all then None else Some s.notes.capacity };
 
     #[inline]
     fn step(&mut self, at: u64, packet: &mut Packet, _labels: &mut Labels) -> Outcome {

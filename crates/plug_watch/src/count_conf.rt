@@ -1,5 +1,5 @@
 //! The settings of `count`.
-use plug_conf::NumberSet;
+use plugin_options::NumberSet;
 
 /// Settings of `count`, which counts packets by PID.
 #[derive(Drop)]

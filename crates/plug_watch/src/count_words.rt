@@ -1,15 +1,14 @@
 //! The options of `count`.
 ghost use Rattle.std.specs.Prelude.{◌≡◌, IfOk};
-ghost use Rattle.plug_watch.specs.CountSettings.{IsLawfulCount};
+ghost use Rattle.plug_watch.specs.CountSettings.{IsValidCount};
 ghost use Rattle.plug_watch.specs.CountWords.{count};
-ghost use Rattle.option_words.specs.Refusal.{ReadsParsed};
+ghost use Rattle.plugin_options.specs.Refusal.{ReadsParsed};
 
 use crate::count_conf::CountConf;
-use option_words::{
-    Beside, Need, OptionRow, OptionText, OptionWord, ParsedOptions, Refusal, Takes,
-};
-use plug_conf::LAST_PID;
 use plugin_entry::{PluginHelp, PluginSettings};
+use plugin_options::{
+    Beside, LAST_PID, Need, OptionRow, OptionText, OptionWord, ParsedOptions, Refusal, Takes,
+};
 use std::alloc::Global;
 
 // The options of `count`.
@@ -55,7 +54,7 @@ static COUNT: [OptionRow; 4] = [
 // Reads the settings of `count` from the options that its command found.
 fn count_settings(alloc: Global, found: &ParsedOptions) -> Result<CountConf, Refusal>
     ensures reads { ReadsParsed count found.now result }
-    ensures lawful { IfOk result IsLawfulCount }
+    ensures valid { IfOk result IsValidCount }
 {
     Ok(CountConf {
         pid: found.ranges(alloc, "pid", LAST_PID)?,

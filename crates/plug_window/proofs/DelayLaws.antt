@@ -15,15 +15,15 @@ use Rattle.ts_packet.specs.Header.{pid_of}
 use Rattle.chain_model.specs.Apply.{StageList, outcome_of_live, onto, apply_after, apply}
 use Rattle.chain_model.specs.NeverEnds.{GoesOn, NeverEnds}
 use Rattle.chain_model.specs.Stuffed.{null_cells}
-use Rattle.plugin_trait.specs.Fates.{fate}
+use Rattle.plugin_trait.specs.Actions.{action}
 use Rattle.plug_psi.specs.Referred.{refers}
-use Rattle.plug_window.specs.DelayRule.{given_packet, labels_left, delay_rule, all_given, with_nulls_behind}
+use Rattle.plug_window.specs.DelayRule.{given_packet, labels_left, delay_rule, all_given, with_nulls_after}
 use Rattle.plug_window.specs.CompactRule.{on_null_pid, is_null, ahead, parted, compacted, blocks_parted, compact_rule}
 use Rattle.plug_window.specs.RmorphanRule.{picked, delayed, is_referred, rmorphan_rule, kept_packets}
 use Rattle.plug_window.specs.WindowSettings.{plain_window}
 use Rattle.plug_window.proofs.GivenLemmas.{blocks-given, kept_rows, late-given}
 
-goes : (stuffing : Bool) (given : Option Labelled) → GoesOn (fate stuffing (given_packet given))
+goes : (stuffing : Bool) (given : Option Labelled) → GoesOn (action stuffing (given_packet given))
 goes stuffing (Some row) = tt
 goes true None = tt
 goes false None = tt
@@ -34,7 +34,7 @@ never-ends stuffing given = record { goes_on = λ history packet labels. goes st
 
 -- one place outputs what is put in it, or nothing
 slot : (given : Option Labelled) (labels : ℕ) (rest : StageList)
-    → live_rows (onto (outcome_of_live (fate false (given_packet given)) (labels_left labels given)) rest).cells ≡ option_to_list given ++ live_rows rest.cells
+    → live_rows (onto (outcome_of_live (action false (given_packet given)) (labels_left labels given)) rest).cells ≡ option_to_list given ++ live_rows rest.cells
 slot None labels rest = refl
 slot (Some row) labels rest = refl
 
@@ -75,7 +75,7 @@ rows-null zero = refl
 rows-null (suc n) = ap (λ (rows : List Labelled). bare null_packet ∷ rows) (rows-null n)
 
 -- the rows of packets followed by null packets
-rows-all : (n : ℕ) (packets : List (List ℕ)) → live_rows (with_nulls_behind n packets) ≡ map bare packets ++ map bare (replicate n null_packet)
+rows-all : (n : ℕ) (packets : List (List ℕ)) → live_rows (with_nulls_after n packets) ≡ map bare packets ++ map bare (replicate n null_packet)
 rows-all n packets =
     flat_map-append row_in (map (λ packet. Live packet no_labels) packets) (null_cells n)
     ∙ (ap (λ (rows : List Labelled). rows ++ live_rows (null_cells n)) (rows-bare packets)
@@ -109,9 +109,9 @@ module _ {X Y : Type 0} (view : X → Y) where
       ∙ ap (λ (row : List Y). parted last (take n (map view xs)) ++ row) (map-blocks last n count (drop n xs) ∙ ap (blocks_parted last n count) (sym (drop-map view n xs))))
 
 pub compact-blocks : (window count : ℕ) (packets : List (List ℕ)) → 1 ≤ window → length packets ≡ count * window
-    → live_packets (apply (compact_rule (plain_window window)) (with_nulls_behind window packets)).cells ≡ blocks_parted on_null_pid window count packets
+    → live_packets (apply (compact_rule (plain_window window)) (with_nulls_after window packets)).cells ≡ blocks_parted on_null_pid window count packets
 compact-blocks window count packets some long =
-    let cells = with_nulls_behind window packets in
+    let cells = with_nulls_after window packets in
     let nulls = replicate window null_packet in
     packets-of (apply (compact_rule (plain_window window)) cells).cells
     ∙ (ap packets_in (one-by-one (compacted is_null window) cells)
@@ -136,10 +136,10 @@ kept-packets n all i (packet ∷ packets) =
     ∙ kept-step (refers (take (i + n + 1) all) (pid_of packet)) packet (kept_rows is_referred n (map bare all) (i + 1) (map bare packets)) (kept_packets n all (i + 1) packets) (kept-packets n all (i + 1) packets)
 
 pub rmorphan-referred : (window : ℕ) (packets : List (List ℕ)) → 1 ≤ window
-    → live_packets (apply (rmorphan_rule (plain_window window)) (with_nulls_behind window packets)).cells
+    → live_packets (apply (rmorphan_rule (plain_window window)) (with_nulls_after window packets)).cells
     ≡ kept_packets window (packets ++ replicate window null_packet) 0 packets
 rmorphan-referred window packets some =
-    let cells = with_nulls_behind window packets in
+    let cells = with_nulls_after window packets in
     let nulls = replicate window null_packet in
     packets-of (apply (rmorphan_rule (plain_window window)) cells).cells
     ∙ (ap packets_in (one-by-one (delayed is_referred window) cells)

@@ -1,14 +1,14 @@
 -- Worked rows of the rules, computed on the definitions. Where labels do not matter the items are numbers, of which 0
 -- is a null packet; packets of four bytes are enough here.
 use Rattle.std.proofs.Common.{◌≡◌, ℕ, ◌==◌, nat_le, ◌||◌, List, [], ◌∷◌, Bool, true, refl, lit≤}
-use Rattle.bit_rows.specs.BitRow.{bit_of, field}
+use Rattle.ts_bit_rows.specs.BitRow.{bit_of, field}
 use Rattle.ts_packet.specs.Cells.{Live, Dropped}
 use Rattle.ts_packet.specs.Packet.{null_packet}
 use Rattle.chain_model.specs.Apply.{apply}
 use Rattle.plug_window.specs.DelayRule.{all_given}
 use Rattle.plug_window.specs.CompactRule.{compacted, blocks_parted, compact_rule}
 use Rattle.plug_window.specs.RmorphanRule.{delayed, rmorphan_rule}
-use Rattle.plug_window.specs.WindowSettings.{IsLawfulWindow, plain_window}
+use Rattle.plug_window.specs.WindowSettings.{IsValidWindow, plain_window}
 
 abbrev null : ℕ → Bool
 null x = x == 0
@@ -74,5 +74,5 @@ unfolding field bit_of
 fixed-given = refl
 
 -- the largest window has 100,000 packets
-most-packets : IsLawfulWindow (plain_window 100000)
+most-packets : IsValidWindow (plain_window 100000)
 most-packets = record { some_packet = lit≤ tt; bounded = lit≤ tt }

@@ -7,7 +7,7 @@ use Rattle.ts_packet.specs.Labels.{no_labels}
 use Rattle.ts_packet.specs.LiveRows.{labelled, live_rows}
 use Rattle.chain_model.specs.PluginRule.{PluginRule}
 use Rattle.chain_model.specs.Stuffed.{null_cells}
-use Rattle.plugin_trait.specs.Fates.{fate}
+use Rattle.plugin_trait.specs.Actions.{action}
 use Rattle.plugin_trait.specs.SilentRule.{silent_rule_with}
 
 -- the packet that is output, if there is one
@@ -22,7 +22,7 @@ labels_left labels (Some row) = row.labels
 -- with each packet the rule passes what is output given the packets before it; dropped cells do not count
 abbrev pub delay_rule : Bool → (List Labelled → Labelled → Option Labelled) → PluginRule
 delay_rule stuffing given = silent_rule_with
-    (λ history packet labels. fate stuffing (given_packet (given (live_rows history) (labelled packet labels))))
+    (λ history packet labels. action stuffing (given_packet (given (live_rows history) (labelled packet labels))))
     (λ history packet labels. labels_left labels (given (live_rows history) (labelled packet labels)))
 
 -- what is output, in turn, with each of the items that come after others
@@ -31,5 +31,5 @@ all_given given before [] = []
 all_given given before (x ∷ xs) = option_to_list (given before x) ++ all_given given (before ++ x ∷ []) xs
 
 -- packets as the input gives them, without labels, followed by `n` null packets
-abbrev pub with_nulls_behind : ℕ → List (List ℕ) → List Cell
-with_nulls_behind n packets = map (λ packet. Live packet no_labels) packets ++ null_cells n
+abbrev pub with_nulls_after : ℕ → List (List ℕ) → List Cell
+with_nulls_after n packets = map (λ packet. Live packet no_labels) packets ++ null_cells n

@@ -13,8 +13,8 @@ abbrev pub conf_of : RmorphanSteps → WindowConf
 conf_of s = record { window = s.line.late.capacity; stuffing = s.stuffing }
 
 -- it names no number of positions at which it never runs out of memory, since its tables grow
-abbrev pub steady_of : RmorphanSteps → Option ℕ
-steady_of s = None
+abbrev pub preallocated_of : RmorphanSteps → Option ℕ
+preallocated_of s = None
 
 -- its delay line stands for the packets of the cells that it processed, with their labels
 abbrev pub Delays : RmorphanSteps → List Cell → Type 0

@@ -1,10 +1,10 @@
 -- Valid settings of `compact` and `rmorphan`. This project's own rule.
 use Rattle.std.specs.Prelude.{◌≤◌, ℕ, false}
-use Rattle.plug_conf.specs.declared.limits.TheConstants.{MOST_WINDOW}
+use Rattle.plugin_options.specs.declared.limits.TheConstants.{MOST_WINDOW}
 use Rattle.plug_window.specs.declared.window_conf.WindowConf.{WindowConf}
 
 -- the window has at least one packet and at most 100,000
-pub record IsLawfulWindow (c : WindowConf) : Type 0 where
+pub record IsValidWindow (c : WindowConf) : Type 0 where
   pub some_packet : 1 ≤ c.window
   pub bounded : c.window ≤ MOST_WINDOW
 

@@ -1,10 +1,10 @@
 -- The options of `compact` and `rmorphan`. This project's own rule.
 use Rattle.std.specs.Prelude.{List, [], ◌∷◌, codes, true, unwrap_or}
-use Rattle.plug_conf.specs.declared.limits.TheConstants.{MOST_WINDOW}
-use Rattle.option_words.specs.Forms.{number}
-use Rattle.option_words.specs.Number.{number_within}
-use Rattle.option_words.specs.Options.{OptionRow, flag, has_flag, has_value, read_value, value}
-use Rattle.option_words.specs.OptionTable.{OptionTable}
+use Rattle.plugin_options.specs.declared.limits.TheConstants.{MOST_WINDOW}
+use Rattle.plugin_options.specs.Forms.{number}
+use Rattle.plugin_options.specs.Number.{number_within}
+use Rattle.plugin_options.specs.Options.{OptionRow, flag, has_flag, has_value, read_value, value}
+use Rattle.plugin_options.specs.OptionTable.{OptionTable}
 use Rattle.plug_window.specs.declared.window_conf.WindowConf.{WindowConf}
 
 -- the options

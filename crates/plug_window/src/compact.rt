@@ -1,7 +1,7 @@
 //! The plugin `compact`.
 ghost use Rattle.std.specs.Prelude.{◌≡◌, IfOk, [], Some};
 ghost use Rattle.plug_window.specs.CompactRule.{compact_rule};
-ghost use Rattle.plug_window.specs.WindowSettings.{IsLawfulWindow};
+ghost use Rattle.plug_window.specs.WindowSettings.{IsValidWindow};
 
 use crate::block_line::BlockLine;
 use crate::slot::fill_slot;
@@ -26,10 +26,10 @@ pub type Compact = Silent<CompactSteps>;
 
 /// A new plugin, which has processed no cell. All memory is allocated here; its steps allocate nothing.
 pub fn new_compact(alloc: Global, conf: &WindowConf, buffer: usize) -> Result<Compact, AllocError>
-    requires { IsLawfulWindow conf.now }
+    requires { IsValidWindow conf.now }
     ensures rule { IfOk result (λ plugin. ⟦<Compact as Plugin>⟧.rule plugin ≡ compact_rule conf.now) }
     ensures fresh { IfOk result (λ plugin. ⟦<Compact as Plugin>⟧.stands_for plugin [] 0) }
-    ensures steady { IfOk result (λ plugin. ⟦<Compact as Plugin>⟧.steady plugin ≡ Some buffer) }
+    ensures preallocated { IfOk result (λ plugin. ⟦<Compact as Plugin>⟧.preallocated plugin ≡ Some buffer) }
 {
     let steps = CompactSteps {
         line: BlockLine::new(alloc, conf.window as usize)?,
@@ -52,7 +52,7 @@ impl Steps for CompactSteps {
 
     ghost stands_for = { λ s history. MeetsHistory s history };
 
-    ghost steady = { λ s. Some s.buffer };
+    ghost preallocated = { λ s. Some s.buffer };
 
     /// The clauses are those of `Steps`, whose ghost members have no names here, and one more: no step returns
     /// `NoMemory`.
@@ -65,7 +65,7 @@ impl Steps for CompactSteps {
         ensures meets { Meets (unmarked (MeetsHistory self.old)) (unmarked (MeetsHistory self.new)) at
             (Live packet.old labels.old) result }
         ensures same_rule { compact_rule (conf_of self.new) ≡ compact_rule (conf_of self.old) }
-        ensures same_steady { Some self.new.buffer ≡ Some self.old.buffer }
+        ensures same_preallocated { Some self.new.buffer ≡ Some self.old.buffer }
         ensures no_memory { result ≢ Outcome.NoMemory }
     {
         let came = Labelled {

@@ -8,7 +8,7 @@ ghost use Rattle.ts_packet.specs.LiveRows.{live_rows};
 ghost use Rattle.ts_packet.specs.Packet.{null_packet};
 ghost use Rattle.chain_model.specs.Apply.{apply};
 ghost use Rattle.chain_model.specs.NeverEnds.{NeverEnds};
-ghost use Rattle.plug_window.specs.DelayRule.{delay_rule, all_given, with_nulls_behind};
+ghost use Rattle.plug_window.specs.DelayRule.{delay_rule, all_given, with_nulls_after};
 ghost use Rattle.plug_window.specs.CompactRule.{compact_rule, blocks_parted, on_null_pid};
 ghost use Rattle.plug_window.specs.RmorphanRule.{rmorphan_rule, kept_packets};
 ghost use Rattle.plug_window.specs.WindowSettings.{plain_window};
@@ -31,7 +31,7 @@ pub fn delays_never_end()
 /// outputs each block with its null packets last, and nothing else.
 pub fn compact_gives_blocks()
     ensures { (window count : ℕ) (packets : List (List ℕ)) → 1 ≤ window → length packets ≡ count * window
-        → live_packets (apply (compact_rule (plain_window window)) (with_nulls_behind window packets)).cells
+        → live_packets (apply (compact_rule (plain_window window)) (with_nulls_after window packets)).cells
         ≡ blocks_parted on_null_pid window count packets }
 {}
 
@@ -39,6 +39,6 @@ pub fn compact_gives_blocks()
 /// their order, exactly those packets whose PID is referred to by the packets up to the end of the window after them.
 pub fn rmorphan_gives_referred()
     ensures { (window : ℕ) (packets : List (List ℕ)) → 1 ≤ window
-        → live_packets (apply (rmorphan_rule (plain_window window)) (with_nulls_behind window packets)).cells
+        → live_packets (apply (rmorphan_rule (plain_window window)) (with_nulls_after window packets)).cells
         ≡ kept_packets window (packets ++ replicate window null_packet) 0 packets }
 {}

@@ -1,7 +1,7 @@
 //! The plugin `rmorphan`.
 ghost use Rattle.std.specs.Prelude.{◌≡◌, IfOk, [], None};
 ghost use Rattle.plug_window.specs.RmorphanRule.{rmorphan_rule};
-ghost use Rattle.plug_window.specs.WindowSettings.{IsLawfulWindow};
+ghost use Rattle.plug_window.specs.WindowSettings.{IsValidWindow};
 
 use crate::late_line::LateLine;
 use crate::slot::fill_slot;
@@ -25,10 +25,10 @@ pub type Rmorphan = Silent<RmorphanSteps>;
 /// A new plugin, which has processed no cell. The room of the window is allocated here; its steps allocate for
 /// tables only.
 pub fn new_rmorphan(alloc: Global, conf: &WindowConf) -> Result<Rmorphan, AllocError>
-    requires { IsLawfulWindow conf.now }
+    requires { IsValidWindow conf.now }
     ensures rule { IfOk result (λ plugin. ⟦<Rmorphan as Plugin>⟧.rule plugin ≡ rmorphan_rule conf.now) }
     ensures fresh { IfOk result (λ plugin. ⟦<Rmorphan as Plugin>⟧.stands_for plugin [] 0) }
-    ensures steady { IfOk result (λ plugin. ⟦<Rmorphan as Plugin>⟧.steady plugin ≡ None) }
+    ensures preallocated { IfOk result (λ plugin. ⟦<Rmorphan as Plugin>⟧.preallocated plugin ≡ None) }
 {
     let steps = RmorphanSteps {
         line: LateLine::new(alloc, conf.window as usize)?,
@@ -46,13 +46,13 @@ impl Steps for RmorphanSteps {
     ghost use Rattle.plugin_trait.specs.Steps.{HasRoom, MeetsCells, Tells, Meets, left_of};
     ghost use Rattle.plugin_trait.specs.Unmarked.{unmarked};
     ghost use Rattle.plug_window.specs.RmorphanRule.{rmorphan_rule};
-    ghost use Rattle.plug_window.specs.RmorphanState.{conf_of, may_name, steady_of, Delays, MeetsHistory};
+    ghost use Rattle.plug_window.specs.RmorphanState.{conf_of, may_name, preallocated_of, Delays, MeetsHistory};
 
     ghost rule = { λ s. rmorphan_rule (conf_of s) };
 
     ghost stands_for = { λ s history. MeetsHistory s history };
 
-    ghost steady = { λ s. steady_of s };
+    ghost preallocated = { λ s. preallocated_of s };
 
     /// The clauses are those of `Steps`, whose ghost members have no names here, and one more: a packet on a PID without a
     /// table that names PIDs wants no memory.
@@ -65,8 +65,8 @@ impl Steps for RmorphanSteps {
         ensures meets { Meets (unmarked (MeetsHistory self.old)) (unmarked (MeetsHistory self.new)) at
             (Live packet.old labels.old) result }
         ensures same_rule { rmorphan_rule (conf_of self.new) ≡ rmorphan_rule (conf_of self.old) }
-        ensures same_steady { steady_of self.new ≡ steady_of self.old }
-        ensures room { HasRoom (steady_of self.old) (unmarked (MeetsHistory self.old)) at → result ≢ Outcome.NoMemory }
+        ensures same_preallocated { preallocated_of self.new ≡ preallocated_of self.old }
+        ensures room { HasRoom (preallocated_of self.old) (unmarked (MeetsHistory self.old)) at → result ≢ Outcome.NoMemory }
         ensures quiet { (history : List Cell) → Delays self.old history
             → may_name (pid_of packet.old) history ≡ false → result ≢ Outcome.NoMemory }
     {

@@ -2,11 +2,10 @@
 
 use crate::rmorphan_conf::RmorphanConf;
 use crate::window_words::window_settings;
-use option_words::{
-    Beside, Need, OptionRow, OptionText, OptionWord, ParsedOptions, Refusal, Takes,
-};
-use plug_conf::MOST_WINDOW;
 use plugin_entry::{PluginHelp, PluginSettings};
+use plugin_options::{
+    Beside, MOST_WINDOW, Need, OptionRow, OptionText, OptionWord, ParsedOptions, Refusal, Takes,
+};
 use std::alloc::Global;
 
 // The options of `rmorphan`.

@@ -1,7 +1,7 @@
 //! The place of a packet, in which an earlier packet is output.
 ghost use Rattle.std.specs.Prelude.{◌≡◌};
 ghost use Rattle.chain_model.specs.Apply.{outcome_of_live, goes_on};
-ghost use Rattle.plugin_trait.specs.Fates.{fate};
+ghost use Rattle.plugin_trait.specs.Actions.{action};
 ghost use Rattle.plugin_trait.specs.Steps.{left_of};
 ghost use Rattle.plug_window.specs.DelayRule.{given_packet, labels_left};
 ghost use Rattle.plug_window.specs.Slots.{outcome_word};
@@ -18,7 +18,7 @@ pub(crate) fn fill_slot(
     given: Option<Labelled>,
     stuffing: bool,
 ) -> Outcome
-    ensures made { outcome_of_live (fate stuffing (given_packet given)) (labels_left labels.old given)
+    ensures made { outcome_of_live (action stuffing (given_packet given)) (labels_left labels.old given)
         ≡ goes_on (left_of result packet.new labels.new) }
     ensures told { result ≡ outcome_word (left_of result packet.new labels.new) }
 {

@@ -1,7 +1,7 @@
 -- What is said of a plugin in one place, in its own crate. This project's own rule.
 use Rattle.std.specs.Prelude.{ℕ, List, Bool, false, true, Option, None, Some}
 use Rattle.chain_model.specs.PluginRule.{PluginRule}
-use Rattle.option_words.specs.OptionTable.{OptionTable, made_into}
+use Rattle.plugin_options.specs.OptionTable.{OptionTable, made_into}
 
 -- a plugin, by its settings
 pub record PluginEntry (C : Type 0) : Type 1 where
@@ -14,7 +14,7 @@ pub record PluginEntry (C : Type 0) : Type 1 where
   -- its rule, with the sections of the file that the settings name, where they name one
   pub rule : C → List (List ℕ) → PluginRule
   -- the number of positions after the greatest mark for which it allocates its memory before the run, where it does
-  pub steady : C → ℕ → Option ℕ
+  pub preallocated : C → ℕ → Option ℕ
   -- it has nothing to report: neither lines nor a summary
   pub silent : C → Bool
   -- it agrees to a common end, and does not end the chain alone
@@ -29,7 +29,7 @@ silent_entry name options is_valid rule = record {
   options = options;
   is_valid = is_valid;
   rule = λ conf _. rule conf;
-  steady = λ _ buffer. Some buffer;
+  preallocated = λ _ buffer. Some buffer;
   silent = λ _. true;
   joint = λ _. false;
   table_file = λ _. None;
@@ -45,7 +45,7 @@ pub record ConfEntry (K : Type 0) : Type 1 where
   pub kind : K
   pub is_valid : Type 0
   pub rule : List (List ℕ) → PluginRule
-  pub steady : ℕ → Option ℕ
+  pub preallocated : ℕ → Option ℕ
   pub silent : Bool
   pub joint : Bool
   pub table_file : Option (List ℕ)
@@ -58,7 +58,7 @@ of_conf kind entry conf = record {
   kind = kind;
   is_valid = entry.is_valid conf;
   rule = entry.rule conf;
-  steady = entry.steady conf;
+  preallocated = entry.preallocated conf;
   silent = entry.silent conf;
   joint = entry.joint conf;
   table_file = entry.table_file conf;

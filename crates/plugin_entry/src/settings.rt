@@ -1,16 +1,16 @@
 //! The settings of a plugin, which say all that there is to say of it.
 
 use crate::plugin_help::PluginHelp;
-use option_words::{OptionRow, ParsedOptions, Refusal};
+use plugin_options::{OptionRow, ParsedOptions, Refusal};
 use std::alloc::Global;
 
 /// The settings of a plugin. Their type says of the plugin what the layers above need to know before they make it.
 pub trait PluginSettings: Sized {
     ghost use Rattle.std.specs.Prelude.{◌≡◌, IfOk, true, option_map};
     ghost use Rattle.clap.specs.Faults.{is_simple_and_free};
-    ghost use Rattle.option_words.specs.Options.{command_of};
-    ghost use Rattle.option_words.specs.OptionWords.{rows_of_options};
-    ghost use Rattle.option_words.specs.Refusal.{ReadsParsed};
+    ghost use Rattle.plugin_options.specs.Options.{command_of};
+    ghost use Rattle.plugin_options.specs.OptionWords.{rows_of_options};
+    ghost use Rattle.plugin_options.specs.Refusal.{ReadsParsed};
     ghost use Rattle.plugin_entry.specs.PluginEntry.{PluginEntry};
 
     /// What is said of the plugin.

@@ -12,22 +12,22 @@ use Rattle.plugin_notes.specs.declared.continuity_conf.ContinuityConf.{Continuit
 use Rattle.plugin_notes.specs.declared.continuity_error.ContinuityError.{ContinuityError}
 use Rattle.plugin_notes.specs.declared.last_packet.LastPacket.{LastPacket}
 use Rattle.plugin_notes.specs.declared.last_packets.LastPackets.{LastPackets}
-use Rattle.plugin_notes.specs.Counters.{is_watched, is_duplicate, is_fault, wanted_behind, packets_of, last_behind, last_in, last_of, step_behind, steps_behind, right_counter}
-use Rattle.plugin_notes.specs.ContinuityErrors.{error_behind, error_on, place_of_error}
+use Rattle.plugin_notes.specs.Counters.{is_watched, is_duplicate, is_fault, wanted_behind, packets_of, last_after, last_in, last_of, step_after, steps_after, right_counter}
+use Rattle.plugin_notes.specs.ContinuityErrors.{error_after, error_on, place_of_error}
 use Rattle.plugin_notes.specs.LastSeen.{HasCounters, Remembers, fault_after, right_after, seen_in, seen_with}
 
 -- the last packet
-last_behind-append : (first : List ℕ) (rest : List (List ℕ)) (packet : List ℕ) → last_behind first (rest ++ packet ∷ []) ≡ packet
-last_behind-append first [] packet = refl
-last_behind-append first (next ∷ rest) packet = last_behind-append next rest packet
+last_after-append : (first : List ℕ) (rest : List (List ℕ)) (packet : List ℕ) → last_after first (rest ++ packet ∷ []) ≡ packet
+last_after-append first [] packet = refl
+last_after-append first (next ∷ rest) packet = last_after-append next rest packet
 
 -- the steps with one more packet
-steps_behind-append : (first : List ℕ) (rest : List (List ℕ)) (packet : List ℕ)
-    → steps_behind first (rest ++ packet ∷ []) ≡ steps_behind first rest + step_behind (last_behind first rest) packet
-steps_behind-append first [] packet = omega arith
-steps_behind-append first (next ∷ rest) packet =
-    ap (λ (n : ℕ). step_behind first next + n) (steps_behind-append next rest packet)
-    ∙ sym (add_assoc (step_behind first next) (steps_behind next rest) (step_behind (last_behind next rest) packet))
+steps_after-append : (first : List ℕ) (rest : List (List ℕ)) (packet : List ℕ)
+    → steps_after first (rest ++ packet ∷ []) ≡ steps_after first rest + step_after (last_after first rest) packet
+steps_after-append first [] packet = omega arith
+steps_after-append first (next ∷ rest) packet =
+    ap (λ (n : ℕ). step_after first next + n) (steps_after-append next rest packet)
+    ∙ sym (add_assoc (step_after first next) (steps_after next rest) (step_after (last_after next rest) packet))
 
 -- one more step of a counter
 step_more : (n : ℕ) (steps : Bool) → (n + (if steps then 1 else 0)) % 16 ≡ (if steps then (n % 16 + 1) % 16 else n % 16)
@@ -39,10 +39,10 @@ pub right_counter-append : (packets : List (List ℕ)) (packet : List ℕ) → c
     → right_counter (packets ++ packet ∷ []) ≡ right_after (seen_in packets) packet
 right_counter-append [] packet small = omega arith
 right_counter-append (first ∷ rest) packet small =
-    ap (λ (n : ℕ). (counter_of first + n) % 16) (steps_behind-append first rest packet)
-    ∙ (ap (λ (n : ℕ). n % 16) (sym (add_assoc (counter_of first) (steps_behind first rest) (step_behind (last_behind first rest) packet)))
-    ∙ step_more (counter_of first + steps_behind first rest)
-    (has_payload_of packet && not (is_duplicate (last_behind first rest) packet)))
+    ap (λ (n : ℕ). (counter_of first + n) % 16) (steps_after-append first rest packet)
+    ∙ (ap (λ (n : ℕ). n % 16) (sym (add_assoc (counter_of first) (steps_after first rest) (step_after (last_after first rest) packet)))
+    ∙ step_more (counter_of first + steps_after first rest)
+    (has_payload_of packet && not (is_duplicate (last_after first rest) packet)))
 
 -- what is kept with one more packet
 pub seen_in-append : (packets : List (List ℕ)) (packet : List ℕ) → counter_of packet < 16
@@ -52,12 +52,12 @@ seen_in-append [] packet small =
     (right_counter-append [] packet small)
 seen_in-append (first ∷ rest) packet small =
     ap (λ (last : List ℕ). let s : Option LastPacket = Some (record { counter = counter_of last; has_payload = has_payload_of last; right = right_counter (first ∷ (rest ++ packet ∷ [])) }) in s)
-    (last_behind-append first rest packet)
+    (last_after-append first rest packet)
     ∙ ap (λ (n : ℕ). let s : Option LastPacket = Some (record { counter = counter_of packet; has_payload = has_payload_of packet; right = n }) in s)
     (right_counter-append (first ∷ rest) packet small)
 
 -- an error follows from what is kept
-pub fault_after-seen : (at : ℕ) (packets : List (List ℕ)) (packet : List ℕ) → fault_after at (seen_in packets) packet ≡ error_behind at (last_in packets) packet
+pub fault_after-seen : (at : ℕ) (packets : List (List ℕ)) (packet : List ℕ) → fault_after at (seen_in packets) packet ≡ error_after at (last_in packets) packet
 fault_after-seen at [] packet = refl
 fault_after-seen at (first ∷ rest) packet = refl
 
@@ -73,9 +73,9 @@ packets_of-dropped pid history =
     ap (filter (λ p. pid_of p == pid)) (flat_map-append packet_in history (Dropped ∷ []) ∙ append-nil (live_packets history))
 
 -- at most one error
-one_fault_behind : (at : ℕ) (before : Option (List ℕ)) (packet : List ℕ) → IsNoteAt place_of_error at (error_behind at before packet)
-one_fault_behind at None packet = record { one = inl refl }
-one_fault_behind at (Some before) packet =
+one_fault_after : (at : ℕ) (before : Option (List ℕ)) (packet : List ℕ) → IsNoteAt place_of_error at (error_after at before packet)
+one_fault_after at None packet = record { one = inl refl }
+one_fault_after at (Some before) packet =
     let fault : ContinuityError = record { at = at; pid = pid_of packet; counter = counter_of packet; wanted = wanted_behind before packet } in
     elim (is_fault before packet) as (λ b. IsNoteAt place_of_error at (if b then fault ∷ [] else [])) [
       | true ↦ record { one = inr (fault, refl, refl) }
@@ -84,8 +84,8 @@ one_fault_behind at (Some before) packet =
 
 pub one_fault : (conf : ContinuityConf) (history : List Cell) (packet : List ℕ) → IsNoteAt place_of_error (length history) (error_on conf history packet)
 one_fault conf history packet =
-    elim (is_watched conf (pid_of packet)) as (λ b. IsNoteAt place_of_error (length history) (if b then error_behind (length history) (last_of (pid_of packet) history) packet else [])) [
-      | true ↦ one_fault_behind (length history) (last_of (pid_of packet) history) packet
+    elim (is_watched conf (pid_of packet)) as (λ b. IsNoteAt place_of_error (length history) (if b then error_after (length history) (last_of (pid_of packet) history) packet else [])) [
+      | true ↦ one_fault_after (length history) (last_of (pid_of packet) history) packet
       | false ↦ record { one = inl refl }
     ]
 
@@ -121,7 +121,7 @@ module _ (conf : ContinuityConf) (last : LastPackets) (history : List Cell) (r :
         ap (λ (s : Option LastPacket). fault_after at s packet) before_is
         ∙ (ap (λ (n : ℕ). fault_after n (seen_in (packets_of (pid_of packet) history)) packet) (sym count)
         ∙ (fault_after-seen (length history) (packets_of (pid_of packet) history) packet
-        ∙ sym (ap (λ (b : Bool). if b then error_behind (length history) (last_of (pid_of packet) history) packet else []) watched)))
+        ∙ sym (ap (λ (b : Bool). if b then error_after (length history) (last_of (pid_of packet) history) packet else []) watched)))
 
     -- the correct counter of the packet
     pub right_is : counter_of packet < 16 → right_after before packet ≡ right_counter (packets_of (pid_of packet) history ++ packet ∷ [])

@@ -9,9 +9,9 @@ use Rattle.plugin_notes.specs.declared.continuity_conf.ContinuityConf.{Continuit
 use Rattle.plugin_notes.specs.declared.continuity_error.ContinuityError.{ContinuityError}
 
 -- the error of a packet at a position, given the packet before it on its PID: at most one
-abbrev pub error_behind : ℕ → Option (List ℕ) → List ℕ → List ContinuityError
-error_behind at None packet = []
-error_behind at (Some before) packet =
+abbrev pub error_after : ℕ → Option (List ℕ) → List ℕ → List ContinuityError
+error_after at None packet = []
+error_after at (Some before) packet =
     if is_fault before packet
     then record { at = at; pid = pid_of packet; counter = counter_of packet; wanted = wanted_behind before packet } ∷ []
     else []
@@ -20,7 +20,7 @@ error_behind at (Some before) packet =
 abbrev pub error_on : ContinuityConf → List Cell → List ℕ → List ContinuityError
 error_on conf history packet =
     if is_watched conf (pid_of packet)
-    then error_behind (length history) (last_of (pid_of packet) history) packet
+    then error_after (length history) (last_of (pid_of packet) history) packet
     else []
 
 -- the errors in a list of cells

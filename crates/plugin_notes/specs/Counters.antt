@@ -7,7 +7,7 @@ use Rattle.ts_packet.specs.Cells.{live_packets}
 use Rattle.ts_packet.specs.Header.{pid_of, counter_of, has_payload_of}
 use Rattle.ts_packet.specs.Adaptation.{discontinuity_of}
 use Rattle.ts_packet.specs.declared.numbers.TheConstants.{NULL_PID}
-use Rattle.plug_conf.specs.Selection.{is_selected}
+use Rattle.plugin_options.specs.Selection.{is_selected}
 use Rattle.plugin_notes.specs.declared.continuity_conf.ContinuityConf.{ContinuityConf}
 
 -- the packets on the PID are checked; those on 8191 never are
@@ -39,29 +39,29 @@ fault_text at pid counter wanted = codes "packet " ++ (decimal at ++ (codes " pi
     ++ (codes " counter " ++ (decimal counter ++ (codes " wanted " ++ decimal wanted))))))
 
 -- the last of a packet and those after it
-abbrev pub last_behind : List ℕ → List (List ℕ) → List ℕ
-last_behind first [] = first
-last_behind first (packet ∷ packets) = last_behind packet packets
+abbrev pub last_after : List ℕ → List (List ℕ) → List ℕ
+last_after first [] = first
+last_after first (packet ∷ packets) = last_after packet packets
 
 -- the last packet, if there is one
 abbrev pub last_in : List (List ℕ) → Option (List ℕ)
 last_in [] = None
-last_in (first ∷ rest) = Some (last_behind first rest)
+last_in (first ∷ rest) = Some (last_after first rest)
 
 -- the last packet on a PID
 abbrev pub last_of : ℕ → List Cell → Option (List ℕ)
 last_of pid history = last_in (packets_of pid history)
 
 -- 1 if a packet increments the counter: it has a payload and is no duplicate
-abbrev pub step_behind : List ℕ → List ℕ → ℕ
-step_behind before packet = if has_payload_of packet && not (is_duplicate before packet) then 1 else 0
+abbrev pub step_after : List ℕ → List ℕ → ℕ
+step_after before packet = if has_payload_of packet && not (is_duplicate before packet) then 1 else 0
 
 -- how many of the packets after one on its PID increment the counter
-abbrev pub steps_behind : List ℕ → List (List ℕ) → ℕ
-steps_behind before [] = 0
-steps_behind before (packet ∷ packets) = step_behind before packet + steps_behind packet packets
+abbrev pub steps_after : List ℕ → List (List ℕ) → ℕ
+steps_after before [] = 0
+steps_after before (packet ∷ packets) = step_after before packet + steps_after packet packets
 
 -- the correct counter of the last of the packets on a PID, counted on from the first one's counter
 abbrev pub right_counter : List (List ℕ) → ℕ
 right_counter [] = 0
-right_counter (first ∷ rest) = (counter_of first + steps_behind first rest) % 16
+right_counter (first ∷ rest) = (counter_of first + steps_after first rest) % 16

@@ -6,7 +6,7 @@ use Rattle.ts_packet.specs.Header.{pid_of, counter_of, has_payload_of}
 use Rattle.ts_packet.specs.Adaptation.{discontinuity_of}
 use Rattle.ts_packet.specs.declared.numbers.TheConstants.{PID_COUNT}
 use Rattle.plugin_notes.specs.declared.continuity_conf.ContinuityConf.{ContinuityConf}
-use Rattle.plugin_notes.specs.Counters.{is_watched, packets_of, last_behind, right_counter}
+use Rattle.plugin_notes.specs.Counters.{is_watched, packets_of, last_after, right_counter}
 use Rattle.plugin_notes.specs.declared.continuity_error.ContinuityError.{ContinuityError}
 use Rattle.plugin_notes.specs.declared.last_packet.LastPacket.{LastPacket}
 use Rattle.plugin_notes.specs.declared.last_packets.LastPackets.{LastPackets}
@@ -15,8 +15,8 @@ use Rattle.plugin_notes.specs.declared.last_packets.LastPackets.{LastPackets}
 abbrev pub seen_in : List (List ℕ) → Option LastPacket
 seen_in [] = None
 seen_in (first ∷ rest) = Some (record {
-  counter = counter_of (last_behind first rest);
-  has_payload = has_payload_of (last_behind first rest);
+  counter = counter_of (last_after first rest);
+  has_payload = has_payload_of (last_after first rest);
   right = right_counter (first ∷ rest);
 })
 

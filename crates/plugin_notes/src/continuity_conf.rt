@@ -1,5 +1,5 @@
 //! The settings of `continuity`.
-use plug_conf::NumberSet;
+use plugin_options::NumberSet;
 
 /// Settings of `continuity`, which checks continuity counters.
 #[derive(Drop)]

@@ -9,7 +9,7 @@ use Rattle.chain_model.specs.Apply.{StageList, CellOutcome, goes_on, ends_after,
 use Rattle.plugin_trait.proofs.Going.{behind}
 use Rattle.plugin_trait.specs.Driving.{made_so_far}
 
-onto-behind : (fate : CellOutcome) (a b c : StageList) → (a.ended ≡ None → b ≡ behind a.cells c) → (onto fate a).ended ≡ None → onto fate b ≡ behind (onto fate a).cells c
+onto-behind : (action : CellOutcome) (a b c : StageList) → (a.ended ≡ None → b ≡ behind a.cells c) → (onto action a).ended ≡ None → onto action b ≡ behind (onto action a).cells c
 onto-behind (goes_on cell) a b c step open_ = ap (onto (goes_on cell)) (step open_)
 onto-behind (ends_after cell) a b c step open_ = cc
 onto-behind (ends_before how) a b c step open_ = cc
@@ -26,7 +26,7 @@ apply_after-append rule history (x ∷ xs) ys open_ =
     open_
 
 -- as many cells were made as were met
-onto-same_length : (fate : CellOutcome) (a : StageList) (n : ℕ) → (a.ended ≡ None → length a.cells ≡ n) → (onto fate a).ended ≡ None → length (onto fate a).cells ≡ n + 1
+onto-same_length : (action : CellOutcome) (a : StageList) (n : ℕ) → (a.ended ≡ None → length a.cells ≡ n) → (onto action a).ended ≡ None → length (onto action a).cells ≡ n + 1
 onto-same_length (goes_on cell) a n step open_ = let same : length a.cells ≡ n = step open_ in omega arith
 onto-same_length (ends_after cell) a n step open_ = cc
 onto-same_length (ends_before how) a n step open_ = cc
@@ -41,9 +41,9 @@ apply_after-same_length rule history (x ∷ xs) open_ =
 module _ (rule : PluginRule) (history cells made : List Cell) (i : ℕ) (cell left : Cell) (within : i < length cells) (room : i < length made)
     (is : get_or cells i cell ≡ cell)
     (far : apply_after rule history (take i cells) ≡ made_so_far (take i made) Through) where
-  far_step : (fate : CellOutcome) → became rule (history ++ take i cells) cell ≡ fate
-      → apply_after rule history (take (i + 1) cells) ≡ behind (take i made) (onto fate (record { cells = []; ended = None }))
-  far_step fate e =
+  far_step : (action : CellOutcome) → became rule (history ++ take i cells) cell ≡ action
+      → apply_after rule history (take (i + 1) cells) ≡ behind (take i made) (onto action (record { cells = []; ended = None }))
+  far_step action e =
       let next : take (i + 1) cells ≡ take i cells ++ cell ∷ [] = take_more cells i cell within ∙ ap (λ (x : Cell). take i cells ++ x ∷ []) is in
       let open_ : (apply_after rule history (take i cells)).ended ≡ None = ap (λ (l : StageList). l.ended) far in
       ap (apply_after rule history) next

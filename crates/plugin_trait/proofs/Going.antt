@@ -34,13 +34,13 @@ module _ (rule : PluginRule) (history given made : List Cell) (i : ℕ) (cell : 
     (within : i < length given) (is : get_or given i cell ≡ cell)
     (half : all ≡ behind (take i made) (apply_after rule (history ++ take i given) (drop i given))) where
   -- what is known of the whole list where the fate of its next cell is known
-  pub half_known : (fate : CellOutcome) → became rule (history ++ take i given) cell ≡ fate
-      → all ≡ behind (take i made) (onto fate (apply_after rule (history ++ take (i + 1) given) (drop (i + 1) given)))
-  half_known fate e =
+  pub half_known : (action : CellOutcome) → became rule (history ++ take i given) cell ≡ action
+      → all ≡ behind (take i made) (onto action (apply_after rule (history ++ take (i + 1) given) (drop (i + 1) given)))
+  half_known action e =
       half
       ∙ ap (behind (take i made)) (apply_after-drop rule (history ++ take i given) given i cell within is)
       ∙ ap (λ (f : CellOutcome). behind (take i made) (onto f (apply_after rule ((history ++ take i given) ++ cell ∷ []) (drop (i + 1) given)))) e
-      ∙ ap (λ (h : List Cell). behind (take i made) (onto fate (apply_after rule h (drop (i + 1) given)))) (sym (met-more history given i cell within is))
+      ∙ ap (λ (h : List Cell). behind (take i made) (onto action (apply_after rule h (drop (i + 1) given)))) (sym (met-more history given i cell within is))
 
   -- the list goes on
   pub half_goes_on : (left : Cell) → i < length made → became rule (history ++ take i given) cell ≡ goes_on left
@@ -85,8 +85,8 @@ same_at xs ys i d same =
     ap (λ (n : ℕ). get_or xs n d) (sym (add-zero i)) ∙ (sym (get_or-drop i xs 0 d) ∙ (ap (λ (zs : List Cell). get_or zs 0 d) same ∙ (get_or-drop i ys 0 d ∙ ap (λ (n : ℕ). get_or ys n d) (add-zero i))))
 
 -- and after that place, whatever is written there
-pub same_behind : (xs ys : List Cell) (i : ℕ) (left : Cell) → drop i xs ≡ drop i ys → drop (i + 1) (set xs i left) ≡ drop (i + 1) ys
-same_behind xs ys i left same =
+pub same_after : (xs ys : List Cell) (i : ℕ) (left : Cell) → drop i xs ≡ drop i ys → drop (i + 1) (set xs i left) ≡ drop (i + 1) ys
+same_after xs ys i left same =
     drop-set-lt (i + 1) xs i left (omega arith) ∙ (sym (drop-drop 1 i xs) ∙ (ap (drop 1) same ∙ drop-drop 1 i ys))
 
 -- the cell at a place, read in the one list, is that of the other

@@ -5,7 +5,7 @@ use Rattle.chain_model.specs.Prefix.{IsPrefix}
 use Rattle.chain_model.specs.PluginRule.{PluginRule}
 use Rattle.chain_model.specs.Apply.{OwnEnd, last_passed, stopped, refused, StageList}
 use Rattle.chain_model.specs.Joint.{agreement_of}
-use Rattle.plugin_trait.specs.Steps.{IsSteadyFor}
+use Rattle.plugin_trait.specs.Steps.{IsPreallocatedFor}
 use Rattle.plugin_trait.specs.declared.list_end.ListEnd.{ListEnd}
 use Rattle.plugin_trait.specs.declared.list_end.ListEnd.TheVariants.{Through, Last, Stop, Refuse, NoMemory}
 
@@ -44,9 +44,9 @@ pub record TellsAgreement (rule : PluginRule) (met : List Cell) (before : ℕ) (
   pub notes : noted ≡ is_some (agreement_of rule met)
 
 -- a plugin that stands for so many cells has room for the notes on `len` more, after its mark
-pub record HasRoomFor (steady : Option ℕ) (stands : List Cell → ℕ → Type 0) (at len : ℕ) : Type 0 where
+pub record HasRoomFor (preallocated : Option ℕ) (stands : List Cell → ℕ → Type 0) (at len : ℕ) : Type 0 where
   pub history : List Cell
   pub mark : ℕ
   pub holds : stands history mark
   pub count : length history ≡ at
-  pub within : IsSteadyFor steady (at + len - mark)
+  pub within : IsPreallocatedFor preallocated (at + len - mark)

@@ -5,7 +5,7 @@ pub mod PlacedLines
 pub mod Driving
 pub mod LiveCount
 pub mod SilentRule
-pub mod Fates
+pub mod Actions
 pub mod Unmarked
 pub mod HeardStands
 pub mod Finding

@@ -73,9 +73,9 @@ Meets old new at cell outcome =
     → new (met_after outcome history cell) mark
 
 -- the position is one for which room was made before the run
-pub record HasRoom (steady : Option ℕ) (stands : List Cell → ℕ → Type 0) (at : ℕ) : Type 0 where
+pub record HasRoom (preallocated : Option ℕ) (stands : List Cell → ℕ → Type 0) (at : ℕ) : Type 0 where
   pub room : ℕ
-  pub is_steady : steady ≡ Some room
+  pub is_preallocated : preallocated ≡ Some room
   pub history : List Cell
   pub mark : ℕ
   pub holds : stands history mark
@@ -83,6 +83,6 @@ pub record HasRoom (steady : Option ℕ) (stands : List Cell → ℕ → Type 0)
   pub within : at < mark + room
 
 -- room was made before the run for notes on so many positions after the mark
-abbrev pub IsSteadyFor : Option ℕ → ℕ → Type 0
-IsSteadyFor None count = ⊥
-IsSteadyFor (Some room) count = count ≤ room
+abbrev pub IsPreallocatedFor : Option ℕ → ℕ → Type 0
+IsPreallocatedFor None count = ⊥
+IsPreallocatedFor (Some room) count = count ≤ room

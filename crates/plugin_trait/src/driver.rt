@@ -2,7 +2,7 @@
 ghost use Rattle.std.specs.Prelude.{◌≡◌, ◌≢◌, ◌≤◌, ℕ, [], take, vec_len};
 ghost use Rattle.chain_model.specs.declared.positions.TheConstants.{POSITION_LIMIT};
 ghost use Rattle.chain_model.specs.Apply.{apply};
-ghost use Rattle.plugin_trait.specs.Steps.{IsSteadyFor, MeetsCells};
+ghost use Rattle.plugin_trait.specs.Steps.{IsPreallocatedFor, MeetsCells};
 ghost use Rattle.plugin_trait.specs.Driving.{Makes, AgreesNow};
 
 use crate::{ListEnd, Plugin};
@@ -30,9 +30,9 @@ pub fn apply_plugin<P: Plugin>(plugin: &mut P, cells: &mut Vec<Cell>) -> ListEnd
         → P.stands_for plugin.new (take (vec_len cells.new) cells.old.items) mark }
     ensures fewer { vec_len cells.new ≤ vec_len cells.old }
     ensures same_rule { P.rule plugin.new ≡ P.rule plugin.old }
-    ensures same_steady { P.steady plugin.new ≡ P.steady plugin.old }
+    ensures same_preallocated { P.preallocated plugin.new ≡ P.preallocated plugin.old }
     ensures same_silent { P.silent plugin.new ≡ P.silent plugin.old }
-    ensures room { IsSteadyFor (P.steady plugin.old) (vec_len cells.old) → result ≢ ListEnd.NoMemory }
+    ensures room { IsPreallocatedFor (P.preallocated plugin.old) (vec_len cells.old) → result ≢ ListEnd.NoMemory }
 {
     let mut noted = true;
     let applied = plugin.steps(0, cells.as_mut_slice(), &mut noted);

@@ -31,7 +31,7 @@ pub trait Plugin {
 
     /// Where it is a number, memory was taken before the run for notes on so many positions after
     /// the greatest mark. No call changes it.
-    ghost steady: { Self → Option ℕ };
+    ghost preallocated: { Self → Option ℕ };
 
     /// It has nothing to report, and no report needs memory. No call changes it.
     ghost silent: { Self → Bool } = { λ _. false };
@@ -47,9 +47,9 @@ pub trait Plugin {
             (left_of result packet.new labels.new) }
         ensures meets { Meets (stands_for self.old) (stands_for self.new) at (Live packet.old labels.old) result }
         ensures same_rule { rule self.new ≡ rule self.old }
-        ensures same_steady { steady self.new ≡ steady self.old }
+        ensures same_preallocated { preallocated self.new ≡ preallocated self.old }
         ensures same_silent { silent self.new ≡ silent self.old }
-        ensures room { HasRoom (steady self.old) (stands_for self.old) at → result ≢ Outcome.NoMemory };
+        ensures room { HasRoom (preallocated self.old) (stands_for self.old) at → result ≢ Outcome.NoMemory };
 
     /// Meets a position whose packet was dropped before.
     fn pass_over(&mut self, at: u64)
@@ -57,7 +57,7 @@ pub trait Plugin {
         requires in_range { at < POSITION_LIMIT }
         ensures meets { Meets (stands_for self.old) (stands_for self.new) at Dropped Outcome.Pass }
         ensures same_rule { rule self.new ≡ rule self.old }
-        ensures same_steady { steady self.new ≡ steady self.old }
+        ensures same_preallocated { preallocated self.new ≡ preallocated self.old }
         ensures same_silent { silent self.new ≡ silent self.old };
 
     /// Takes the cell at a position, and leaves in it what the plugin makes of it: by a step where it has a packet.
@@ -70,9 +70,9 @@ pub trait Plugin {
         ensures dropped { cell.old ≡ Dropped → result ≡ Outcome.Pass }
         ensures meets { Meets (stands_for self.old) (stands_for self.new) at cell.old result }
         ensures same_rule { rule self.new ≡ rule self.old }
-        ensures same_steady { steady self.new ≡ steady self.old }
+        ensures same_preallocated { preallocated self.new ≡ preallocated self.old }
         ensures same_silent { silent self.new ≡ silent self.old }
-        ensures room { HasRoom (steady self.old) (stands_for self.old) at → result ≢ Outcome.NoMemory }
+        ensures room { HasRoom (preallocated self.old) (stands_for self.old) at → result ≢ Outcome.NoMemory }
     {
         let Some(live) = cell.live_mut() else {
             self.pass_over(at);
@@ -111,9 +111,9 @@ pub trait Plugin {
             → TellsAgreement (rule self.old) (history ++ take result.count cells.old)
             at result.agreed noted.new }
         ensures same_rule { rule self.new ≡ rule self.old }
-        ensures same_steady { steady self.new ≡ steady self.old }
+        ensures same_preallocated { preallocated self.new ≡ preallocated self.old }
         ensures same_silent { silent self.new ≡ silent self.old }
-        ensures room { HasRoomFor (steady self.old) (stands_for self.old) at (length cells.old)
+        ensures room { HasRoomFor (preallocated self.old) (stands_for self.old) at (length cells.old)
             → result.end ≢ ListEnd.NoMemory }
     {
         let mut agreed = None;
@@ -158,9 +158,9 @@ pub trait Plugin {
         ensures gives { GivesLines (rule self.old) (stands_for self.old) (stands_for self.new) written
             lines.old.items lines.new.items result }
         ensures same_rule { rule self.new ≡ rule self.old }
-        ensures same_steady { steady self.new ≡ steady self.old }
+        ensures same_preallocated { preallocated self.new ≡ preallocated self.old }
         ensures same_silent { silent self.new ≡ silent self.old }
-        ensures room { IsSome (steady self.old) → IsOk result }
+        ensures room { IsSome (preallocated self.old) → IsOk result }
         ensures silent { silent self.old ≡ true → IsOk result };
 
     /// Whether the plugin uses joint termination and agrees to end after the cells that it met.

@@ -19,7 +19,7 @@ impl<T: Steps + Drop> Plugin for Silent<T> {
 
     ghost stands_for = { λ s. unmarked (T.stands_for s.steps) };
 
-    ghost steady = { λ s. T.steady s.steps };
+    ghost preallocated = { λ s. T.preallocated s.steps };
 
     ghost silent = { λ _. true };
 

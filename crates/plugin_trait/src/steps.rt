@@ -24,7 +24,7 @@ pub trait Steps {
 
     /// Where it is a number, memory was taken before the run for so many positions after the greatest mark. No call
     /// changes it.
-    ghost steady: { Self → Option ℕ };
+    ghost preallocated: { Self → Option ℕ };
 
     /// Takes the packet at a position with its labels, as `step` of `Plugin` does.
     fn step(&mut self, at: u64, packet: &mut Packet, labels: &mut Labels) -> Outcome
@@ -35,8 +35,8 @@ pub trait Steps {
         ensures meets { Meets (unmarked (stands_for self.old)) (unmarked (stands_for self.new)) at
             (Live packet.old labels.old) result }
         ensures same_rule { rule self.new ≡ rule self.old }
-        ensures same_steady { steady self.new ≡ steady self.old }
-        ensures room { HasRoom (steady self.old) (unmarked (stands_for self.old)) at → result ≢ Outcome.NoMemory };
+        ensures same_preallocated { preallocated self.new ≡ preallocated self.old }
+        ensures room { HasRoom (preallocated self.old) (unmarked (stands_for self.old)) at → result ≢ Outcome.NoMemory };
 
     /// Meets a position whose packet was dropped before.
     fn pass_over(&mut self, at: u64)
@@ -44,7 +44,7 @@ pub trait Steps {
         requires in_range { at < POSITION_LIMIT }
         ensures meets { Meets (unmarked (stands_for self.old)) (unmarked (stands_for self.new)) at Dropped Outcome.Pass }
         ensures same_rule { rule self.new ≡ rule self.old }
-        ensures same_steady { steady self.new ≡ steady self.old };
+        ensures same_preallocated { preallocated self.new ≡ preallocated self.old };
 
     /// Whether a run that is cut before this position has a fault, as that the plugin found nothing to do.
     fn has_fault(&self, cut: u64) -> bool

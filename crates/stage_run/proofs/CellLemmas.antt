@@ -7,8 +7,8 @@ use borrow.Rule.Slice.PartMut.{put_mid, post_of}
 use Rattle.ts_packet.specs.declared.cell.Cell.{Cell}
 
 -- the cells after a place stay what they were when the one at the place is changed
-pub same_behind : (xs ys : List Cell) (i : ℕ) (cell : Cell) → drop i xs ≡ drop i ys → drop (i + 1) (set xs i cell) ≡ drop (i + 1) ys
-same_behind xs ys i cell same =
+pub same_after : (xs ys : List Cell) (i : ℕ) (cell : Cell) → drop i xs ≡ drop i ys → drop (i + 1) (set xs i cell) ≡ drop (i + 1) ys
+same_after xs ys i cell same =
     drop-set-lt (i + 1) xs i cell (omega arith) ∙ (sym (drop-drop 1 i xs) ∙ (ap (drop 1) same ∙ drop-drop 1 i ys))
 
 -- the first cells of a window of which all after the first `a` were written: those, and the first that were written

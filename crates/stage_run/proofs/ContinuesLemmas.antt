@@ -13,8 +13,8 @@ use Rattle.chain_model.specs.declared.input_end.InputEnd.{InputEnd}
 use Rattle.chain_model.specs.declared.input_end.InputEnd.TheVariants.{End, Sync, ReadFault, TooLong}
 use Rattle.chain_model.specs.Prefix.{IsPrefix}
 use Rattle.chain_model.specs.Apply.{StageList, input_over}
-use Rattle.chain_model.specs.InputList.{is_packet_in_front, packets_within, packets_of, end_behind, input_of_bytes, input_of_nulls}
-use Rattle.chain_model.specs.Stuffed.{null_cells, nulls_behind, stuffed_after, stop_nulls, within_limit, stuffed}
+use Rattle.chain_model.specs.InputList.{is_packet_in_front, packets_within, packets_of, end_after, input_of_bytes, input_of_nulls}
+use Rattle.chain_model.specs.Stuffed.{null_cells, nulls_after, stuffed_after, stop_nulls, within_limit, stuffed}
 use Rattle.chain_model.specs.Stuffed as model
 use Rattle.stage_run.specs.declared.packet_feed.PacketFeed.{PacketFeed}
 use Rattle.stage_run.specs.declared.packet_feed.PacketFeed.TheVariants.{Stream, Nulls, Generated}
@@ -23,16 +23,16 @@ use Rattle.stage_run.specs.Feeds.{FeedStands, StandsAtSource, EndsWhenPut, IsRea
 use Rattle.stage_run.specs.InputStands.{FeedGives, MayFollowEnd, stuffed_so_far}
 use Rattle.stage_run.specs.GeneratedInput.{generated_from, input_of_generated}
 use Rattle.stage_run.proofs.GeneratedLemmas.{generated-split, length-generated}
-use Rattle.stage_run.proofs.PacketLemmas.{front-begins, front-unfinished, front-lost, packets_within-some, fuel_behind, fuel-some, packets_of-rows, packets_of-all, rest-behind, end_behind-unfinished, end_behind-lost}
+use Rattle.stage_run.proofs.PacketLemmas.{front-begins, front-unfinished, front-lost, packets_within-some, fuel_after, fuel-some, packets_of-rows, packets_of-all, rest-behind, end_after-unfinished, end_after-lost}
 
 pub stuffed_after-append : (stuffing : model.Stuffing) (n : ℕ) (xs ys : List (List ℕ))
     → stuffed_after stuffing n (xs ++ ys) ≡ stuffed_after stuffing n xs ++ stuffed_after stuffing (n + length xs) ys
 stuffed_after-append stuffing n [] ys = ap (λ (k : ℕ). stuffed_after stuffing k ys) (omega arith)
 stuffed_after-append stuffing n (x ∷ xs) ys =
     let at : n + 1 + length xs ≡ n + length (x ∷ xs) = omega arith in
-    ap (λ (l : List Cell). Live x no_labels ∷ (nulls_behind stuffing (n + 1) ++ l)) (stuffed_after-append stuffing (n + 1) xs ys)
-    ∙ ap (λ (l : List Cell). Live x no_labels ∷ l) (sym (append_assoc (nulls_behind stuffing (n + 1)) (stuffed_after stuffing (n + 1) xs) (stuffed_after stuffing (n + 1 + length xs) ys)))
-    ∙ ap (λ (k : ℕ). (Live x no_labels ∷ (nulls_behind stuffing (n + 1) ++ stuffed_after stuffing (n + 1) xs)) ++ stuffed_after stuffing k ys) at
+    ap (λ (l : List Cell). Live x no_labels ∷ (nulls_after stuffing (n + 1) ++ l)) (stuffed_after-append stuffing (n + 1) xs ys)
+    ∙ ap (λ (l : List Cell). Live x no_labels ∷ l) (sym (append_assoc (nulls_after stuffing (n + 1)) (stuffed_after stuffing (n + 1) xs) (stuffed_after stuffing (n + 1 + length xs) ys)))
+    ∙ ap (λ (k : ℕ). (Live x no_labels ∷ (nulls_after stuffing (n + 1) ++ stuffed_after stuffing (n + 1) xs)) ++ stuffed_after stuffing k ys) at
 
 begins-more : (hand more : List ℕ) → BeginsPacket hand → BeginsPacket (hand ++ more)
 begins-more hand more begins = record {
@@ -42,11 +42,11 @@ begins-more hand more begins = record {
 
 -- how the input ends that has no packet after the rows
 pub ended-behind : (rows : List (List ℕ)) (rest : List ℕ) → All IsPacket rows → is_packet_in_front rest ≡ false
-    → (input_of_bytes (concat rows ++ rest)).ended ≡ end_behind (length rows) rest
+    → (input_of_bytes (concat rows ++ rest)).ended ≡ end_after (length rows) rest
 ended-behind rows rest are none =
     let same : packets_of (concat rows ++ rest) ≡ rows = packets_of-all rows rest are none in
-    ap (λ (p : List (List ℕ)). end_behind (length p) (drop (188 * length p) (concat rows ++ rest))) same
-    ∙ ap (end_behind (length rows)) (rest-behind rows rest are)
+    ap (λ (p : List (List ℕ)). end_after (length p) (drop (188 * length p) (concat rows ++ rest))) same
+    ∙ ap (end_after (length rows)) (rest-behind rows rest are)
 
 -- some members of two joined lists, past the first one
 pub take-past : (xs ys : List Cell) (n : ℕ) → length xs ≤ n → take n (xs ++ ys) ≡ xs ++ take (n - length xs) ys
@@ -147,12 +147,12 @@ module _ (stuffing : model.Stuffing) (rows : List (List ℕ)) where
       → Continues stuffing rows ended (BeginsPacket hand) (stuffed stuffing (input_of_bytes (concat rows ++ (hand ++ more))))
   continues-stream hand more first now read None are stands may =
       let bytes : List ℕ = hand ++ more in
-      let behind : List (List ℕ) = packets_within (fuel_behind rows bytes) bytes in
+      let behind : List (List ℕ) = packets_within (fuel_after rows bytes) bytes in
       let how : InputEnd = (input_of_bytes (concat rows ++ bytes)).ended in
       subst (λ (p : List (List ℕ)). Continues stuffing rows None (BeginsPacket hand) (within_limit (uncut stuffing p how) how))
       (sym (packets_of-rows rows bytes are))
       (continues-unknown behind how (BeginsPacket hand)
-      (λ begins. packets_within-some (fuel_behind rows bytes) bytes
+      (λ begins. packets_within-some (fuel_after rows bytes) bytes
       (front-begins bytes (begins-more hand more begins))
       (fuel-some rows bytes are (let whole = begins.whole in omega (arith, length-append hand more)))))
   continues-stream hand more first now read (Some (End left)) are stands may =
@@ -162,8 +162,8 @@ module _ (stuffing : model.Stuffing) (rows : List (List ℕ)) where
       let packets : packets_of (concat rows ++ bytes) ≡ rows = packets_of-all rows bytes are none in
       let how : (input_of_bytes (concat rows ++ bytes)).ended ≡ End left =
       ended-behind rows bytes are none
-      ∙ ap (end_behind (length rows)) same
-      ∙ end_behind-unfinished (length rows) hand stands.1
+      ∙ ap (end_after (length rows)) same
+      ∙ end_after-unfinished (length rows) hand stands.1
       ∙ ap End stands.2 in
       of_packets (Some (End left)) (BeginsPacket hand) bytes rows (End left) packets how (continues-end left (BeginsPacket hand))
   continues-stream hand more first now read (Some (Sync packet)) are stands may =
@@ -172,12 +172,12 @@ module _ (stuffing : model.Stuffing) (rows : List (List ℕ)) where
       let packets : packets_of (concat rows ++ bytes) ≡ rows = packets_of-all rows bytes are none in
       let how : (input_of_bytes (concat rows ++ bytes)).ended ≡ Sync packet =
       ended-behind rows bytes are none
-      ∙ end_behind-lost (length rows) hand more stands.1
+      ∙ end_after-lost (length rows) hand more stands.1
       ∙ ap Sync (sym stands.2) in
       of_packets (Some (Sync packet)) (BeginsPacket hand) bytes rows (Sync packet) packets how (continues-lost packet (BeginsPacket hand))
   continues-stream hand more first now read (Some ReadFault) are stands may =
       let bytes : List ℕ = hand ++ more in
-      let behind : List (List ℕ) = packets_within (fuel_behind rows bytes) bytes in
+      let behind : List (List ℕ) = packets_within (fuel_after rows bytes) bytes in
       let how : InputEnd = (input_of_bytes (concat rows ++ bytes)).ended in
       of_packets (Some ReadFault) (BeginsPacket hand) bytes (rows ++ behind) how (packets_of-rows rows bytes are) refl (continues-failed behind how (BeginsPacket hand))
   continues-stream hand more first now read (Some TooLong) are stands may = absurd stands

@@ -12,7 +12,7 @@ use Rattle.chain_model.specs.declared.input_end.InputEnd.{InputEnd}
 use Rattle.chain_model.specs.declared.input_end.InputEnd.TheVariants.{End, Sync, ReadFault, TooLong}
 use Rattle.chain_model.specs.Apply.{StageList}
 use Rattle.chain_model.specs.InputList.{input_of_bytes, input_of_nulls}
-use Rattle.chain_model.specs.Stuffed.{null_cells, nulls_behind, stuffed_after, stuffed}
+use Rattle.chain_model.specs.Stuffed.{null_cells, nulls_after, stuffed_after, stuffed}
 use Rattle.chain_model.specs.Stuffed as model
 use Rattle.stage_run.specs.declared.packet_feed.PacketFeed.{PacketFeed}
 use Rattle.stage_run.specs.declared.packet_feed.PacketFeed.TheVariants.{Stream, Nulls, Generated}
@@ -26,15 +26,15 @@ use Rattle.stage_run.specs.InputSteps.{InputGoes, IsOver, IsFilled, cell_put, wi
 
 -- one packet more, with the null packets after it
 pub stuffed_after-push : (stuffing : model.Stuffing) (n : ℕ) (rows : List (List ℕ)) (row : List ℕ)
-    → stuffed_after stuffing n (rows ++ row ∷ []) ≡ stuffed_after stuffing n rows ++ (Live row no_labels ∷ nulls_behind stuffing (n + length rows + 1))
+    → stuffed_after stuffing n (rows ++ row ∷ []) ≡ stuffed_after stuffing n rows ++ (Live row no_labels ∷ nulls_after stuffing (n + length rows + 1))
 stuffed_after-push stuffing n [] row =
-    ap (λ (l : List Cell). Live row no_labels ∷ l) (append-nil (nulls_behind stuffing (n + 1)))
-    ∙ ap (λ (k : ℕ). Live row no_labels ∷ nulls_behind stuffing k) (omega arith)
+    ap (λ (l : List Cell). Live row no_labels ∷ l) (append-nil (nulls_after stuffing (n + 1)))
+    ∙ ap (λ (k : ℕ). Live row no_labels ∷ nulls_after stuffing k) (omega arith)
 stuffed_after-push stuffing n (r ∷ rows) row =
     let at : n + 1 + length rows + 1 ≡ n + length (r ∷ rows) + 1 = omega arith in
-    ap (λ (l : List Cell). Live r no_labels ∷ (nulls_behind stuffing (n + 1) ++ l)) (stuffed_after-push stuffing (n + 1) rows row)
-    ∙ ap (λ (l : List Cell). Live r no_labels ∷ l) (sym (append_assoc (nulls_behind stuffing (n + 1)) (stuffed_after stuffing (n + 1) rows) (Live row no_labels ∷ nulls_behind stuffing (n + 1 + length rows + 1))))
-    ∙ ap (λ (k : ℕ). (Live r no_labels ∷ (nulls_behind stuffing (n + 1) ++ stuffed_after stuffing (n + 1) rows)) ++ (Live row no_labels ∷ nulls_behind stuffing k)) at
+    ap (λ (l : List Cell). Live r no_labels ∷ (nulls_after stuffing (n + 1) ++ l)) (stuffed_after-push stuffing (n + 1) rows row)
+    ∙ ap (λ (l : List Cell). Live r no_labels ∷ l) (sym (append_assoc (nulls_after stuffing (n + 1)) (stuffed_after stuffing (n + 1) rows) (Live row no_labels ∷ nulls_after stuffing (n + 1 + length rows + 1))))
+    ∙ ap (λ (k : ℕ). (Live r no_labels ∷ (nulls_after stuffing (n + 1) ++ stuffed_after stuffing (n + 1) rows)) ++ (Live row no_labels ∷ nulls_after stuffing k)) at
 
 null_cells-if : (b : Bool) (n : ℕ) → null_cells (if b then n else 0) ≡ (if b then null_cells n else [])
 null_cells-if true n = refl
@@ -55,15 +55,15 @@ stuffed_after-append : (stuffing : model.Stuffing) (n : ℕ) (rows more : List (
     → stuffed_after stuffing n (rows ++ more) ≡ stuffed_after stuffing n rows ++ live_cells more
 stuffed_after-append stuffing n [] more none = stuffed_after-plain stuffing n more none
 stuffed_after-append stuffing n (row ∷ rows) more none =
-    ap (λ (l : List Cell). Live row no_labels ∷ (nulls_behind stuffing (n + 1) ++ l)) (stuffed_after-append stuffing (n + 1) rows more none)
-    ∙ ap (λ (l : List Cell). Live row no_labels ∷ l) (sym (append_assoc (nulls_behind stuffing (n + 1)) (stuffed_after stuffing (n + 1) rows) (live_cells more)))
+    ap (λ (l : List Cell). Live row no_labels ∷ (nulls_after stuffing (n + 1) ++ l)) (stuffed_after-append stuffing (n + 1) rows more none)
+    ∙ ap (λ (l : List Cell). Live row no_labels ∷ l) (sym (append_assoc (nulls_after stuffing (n + 1)) (stuffed_after stuffing (n + 1) rows) (live_cells more)))
 
 length-live_cells : (rows : List (List ℕ)) → length (live_cells rows) ≡ length rows
 length-live_cells [] = refl
 length-live_cells (row ∷ rows) = omega (arith, length-live_cells rows)
 
 -- the null packets that are due after a packet
-pub null_cells-due : (stuffing : model.Stuffing) (packet : ℕ) → null_cells (null_count stuffing packet) ≡ nulls_behind stuffing packet
+pub null_cells-due : (stuffing : model.Stuffing) (packet : ℕ) → null_cells (null_count stuffing packet) ≡ nulls_after stuffing packet
 null_cells-due stuffing packet = null_cells-if (packet % stuffing.every == 0) stuffing.null
 
 -- and those after the end
@@ -257,8 +257,8 @@ module _ {S : Type 0} (seen : S → SourceView) where
       let before : List Cell = stuffed_after stuffing 0 holds.rows in
       let number : packets_put feed ≡ 0 + length holds.rows + 1 =
       sym (FeedStands-count feed lists.source lists.read (holds.rows ++ found.row ∷ []) None found.stands) ∙ length-append holds.rows (found.row ∷ []) ∙ omega arith in
-      let behind : null_cells nulls ≡ nulls_behind stuffing (0 + length holds.rows + 1) =
-      ap null_cells due ∙ null_cells-due stuffing (packets_put feed) ∙ ap (λ (n : ℕ). nulls_behind stuffing n) number in
+      let behind : null_cells nulls ≡ nulls_after stuffing (0 + length holds.rows + 1) =
+      ap null_cells due ∙ null_cells-due stuffing (packets_put feed) ∙ ap (λ (n : ℕ). nulls_after stuffing n) number in
       let more_is : stuffed_after stuffing 0 (holds.rows ++ found.row ∷ []) ≡ before ++ (cell ∷ null_cells nulls) =
       stuffed_after-push stuffing 0 holds.rows found.row
       ∙ ap (λ (l : List Cell). before ++ (Live found.row no_labels ∷ l)) (sym behind)

@@ -103,8 +103,8 @@ abbrev pub plain_work : ℕ → Option StageEnd → Work
 plain_work done told = record { done = done; word = record { agreed = None; ended = told } }
 
 -- what an input stands for after its work
-abbrev pub lists_behind : PartLists → List ℕ → List Cell → List Cell → PartLists
-lists_behind lists bytes cells given = record {
+abbrev pub lists_after : PartLists → List ℕ → List Cell → List Cell → PartLists
+lists_after lists bytes cells given = record {
   met = lists.met ++ cells;
   given = lists.given ++ given;
   read = lists.read ++ bytes;
@@ -219,12 +219,12 @@ module _ {S : Type 0} (seen : S → SourceView) where
       → (goes : InputGoes seen old new lists wanted (take done cells_new))
       → length lists.given + wanted ≤ read_for (length lists.given) (length cells)
       → length (lists.given ++ take done cells_new) ≤ 2 ^ 60
-      → FitsTold new.ended new.nulls (lists_behind lists goes.bytes (take done cells) (take done cells_new)) told
+      → FitsTold new.ended new.nulls (lists_after lists goes.bytes (take done cells) (take done cells_new)) told
       → ((input : StageList) (continues : Continues (stuffing_of new.stuffing) goes.holds.rows new.ended (IsReady new.feed) input) → IsLonger told new.nulls (length continues.rest))
       → InputTells news (length lists.given) done (FillsWindow new (length cells) done) (lists.read ++ goes.bytes ≡ lists.read) told
       → Works (InputStands seen new) (InputWorks seen old new lists news cells cells_new (plain_work done told)) lists written cells cells_new (plain_work done told)
   works_of old new lists news cells cells_new written wanted done told was mark goes room fits fit longer tells =
-      let after : PartLists = lists_behind lists goes.bytes (take done cells) (take done cells_new) in
+      let after : PartLists = lists_after lists goes.bytes (take done cells) (take done cells_new) in
       let holds : InputHolds seen new after = record {
         rows = goes.holds.rows;
         feed = goes.holds.feed;
@@ -291,7 +291,7 @@ module _ {S : Type 0} (seen : S → SourceView) where
       works_of old new lists news cells cells written 1 0 (Some (Input how)) was may.mark goes
       (let room : read_for (length lists.given) (length cells) ≡ length lists.given + 1 = read_for-full (length lists.given) (length cells) (omega arith) in omega arith)
       (omega arith)
-      (fits_at_limit how new.ended new.nulls (IsReady new.feed) (lists_behind lists goes.bytes [] []) (omega arith) (EndsSo-limit new how ends) (λ some. stays_open some was.fits.can)
+      (fits_at_limit how new.ended new.nulls (IsReady new.feed) (lists_after lists goes.bytes [] []) (omega arith) (EndsSo-limit new how ends) (λ some. stays_open some was.fits.can)
       (λ lost. no_too_long new.feed lists.source (lists.read ++ goes.bytes) goes.holds.rows new.ended lost goes.holds.feed))
       (λ input continues. longer_at_limit how new.ended new.nulls (IsReady new.feed) (length continues.rest) (EndsSo-limit new how ends) continues.ready
       (λ lost. no_too_long new.feed lists.source (lists.read ++ goes.bytes) goes.holds.rows new.ended lost goes.holds.feed))
@@ -311,7 +311,7 @@ module _ {S : Type 0} (seen : S → SourceView) where
       (let room : read_for (length lists.given) (length cells) ≡ length lists.given + length cells =
       read_for-free (length lists.given) (length cells) (λ full. free (sym given_is ∙ full)) in omega arith)
       (omega (arith, length-append lists.given (take done cells_new), length-take done cells_new))
-      (fits_over how new.ended new.nulls (lists_behind lists goes.bytes (take done cells) (take done cells_new)) over.ended over.nulls lost)
+      (fits_over how new.ended new.nulls (lists_after lists goes.bytes (take done cells) (take done cells_new)) over.ended over.nulls lost)
       (λ input continues. longer_over how new.nulls (length continues.rest) (λ is. lost (over.ended ∙ ap Some is)))
       tt
 
@@ -352,7 +352,7 @@ module _ {S : Type 0} (seen : S → SourceView) where
       (let room : read_for (length lists.given) (length cells) ≡ length lists.given + length cells =
       read_for-free (length lists.given) (length cells) (λ full. free (sym given_is ∙ full)) in omega arith)
       (omega arith)
-      (fits_followed b new.ended new.nulls (lists_behind lists goes.bytes (take done cells) (take done cells_new))
+      (fits_followed b new.ended new.nulls (lists_after lists goes.bytes (take done cells) (take done cells_new))
       (record { can = stays_open was.fits.can; reads = subst (λ (n : ℕ). length (lists.read ++ goes.bytes) ≤ 188 * (n + 1)) (sym given_now) reads_now }))
       (λ input continues. longer_followed b new.nulls (length continues.rest))
       (tells_followed b news (length lists.given) done (FillsWindow new (length cells) done) (lists.read ++ goes.bytes ≡ lists.read) fills (omega arith))

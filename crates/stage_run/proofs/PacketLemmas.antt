@@ -6,7 +6,7 @@ use Rattle.std.proofs.lemmas.List.Elements.{All-head, All-tail}
 use Rattle.std.specs.List.{All, concat}
 use Rattle.ts_packet.specs.Packet.{IsPacket}
 use Rattle.chain_model.specs.declared.input_end.InputEnd.TheVariants.{End, Sync}
-use Rattle.chain_model.specs.InputList.{is_packet_in_front, packets_within, packets_of, end_behind}
+use Rattle.chain_model.specs.InputList.{is_packet_in_front, packets_within, packets_of, end_after}
 use Rattle.stage_run.specs.Rows.{IsUnfinished, IsOutOfSync, BeginsPacket}
 use Rattle.stage_run.proofs.StreamLemmas.{length-concat}
 
@@ -64,19 +64,19 @@ packets_within-front most (row ∷ rows) rest are =
     ∙ ap (λ rest. row ∷ rest) (packets_within-front most rows rest (All-tail IsPacket row rows are))
 
 -- how many packets may come after the rows, at most
-abbrev pub fuel_behind : List (List ℕ) → List ℕ → ℕ
-fuel_behind rows rest = length (concat rows ++ rest) - length rows
+abbrev pub fuel_after : List (List ℕ) → List ℕ → ℕ
+fuel_after rows rest = length (concat rows ++ rest) - length rows
 
 -- the packets are the rows, and those of the rest
 pub packets_of-rows : (rows : List (List ℕ)) (rest : List ℕ) → All IsPacket rows
-    → packets_of (concat rows ++ rest) ≡ rows ++ packets_within (fuel_behind rows rest) rest
+    → packets_of (concat rows ++ rest) ≡ rows ++ packets_within (fuel_after rows rest) rest
 packets_of-rows rows rest are =
     let all : length (concat rows) ≡ 188 * length rows = length-concat rows are in
-    let fuel : length (concat rows ++ rest) ≡ length rows + fuel_behind rows rest = omega (arith, length-append (concat rows) rest) in
-    ap (λ n. packets_within n (concat rows ++ rest)) fuel ∙ packets_within-front (fuel_behind rows rest) rows rest are
+    let fuel : length (concat rows ++ rest) ≡ length rows + fuel_after rows rest = omega (arith, length-append (concat rows) rest) in
+    ap (λ n. packets_within n (concat rows ++ rest)) fuel ∙ packets_within-front (fuel_after rows rest) rows rest are
 
 -- there is fuel where bytes are left
-pub fuel-some : (rows : List (List ℕ)) (rest : List ℕ) → All IsPacket rows → 0 < length rest → 0 < fuel_behind rows rest
+pub fuel-some : (rows : List (List ℕ)) (rest : List ℕ) → All IsPacket rows → 0 < length rest → 0 < fuel_after rows rest
 fuel-some rows rest are some = omega (arith, length-concat rows are, length-append (concat rows) rest)
 
 -- where no packet stands in front of the rest they are the rows alone
@@ -84,17 +84,17 @@ pub packets_of-all : (rows : List (List ℕ)) (rest : List ℕ) → All IsPacket
     → packets_of (concat rows ++ rest) ≡ rows
 packets_of-all rows rest are none =
     packets_of-rows rows rest are
-    ∙ ap (λ (l : List (List ℕ)). rows ++ l) (packets_within-none (fuel_behind rows rest) rest none)
+    ∙ ap (λ (l : List (List ℕ)). rows ++ l) (packets_within-none (fuel_after rows rest) rest none)
     ∙ append-nil rows
 
 -- and after them stands the rest
 pub rest-behind : (rows : List (List ℕ)) (rest : List ℕ) → All IsPacket rows → drop (188 * length rows) (concat rows ++ rest) ≡ rest
 rest-behind rows rest are = drop_at (concat rows) rest (188 * length rows) (length-concat rows are)
 
-pub end_behind-unfinished : (n : ℕ) (hand : List ℕ) → IsUnfinished hand → end_behind n hand ≡ End (length hand)
-end_behind-unfinished n [] unfinished = refl
-end_behind-unfinished n (first ∷ rest) unfinished = cond-true _ _ _ (eq-eqb first 0x47 unfinished.0)
+pub end_after-unfinished : (n : ℕ) (hand : List ℕ) → IsUnfinished hand → end_after n hand ≡ End (length hand)
+end_after-unfinished n [] unfinished = refl
+end_after-unfinished n (first ∷ rest) unfinished = cond-true _ _ _ (eq-eqb first 0x47 unfinished.0)
 
-pub end_behind-lost : (n : ℕ) (hand more : List ℕ) → IsOutOfSync hand → end_behind n (hand ++ more) ≡ Sync n
-end_behind-lost n [] more lost = absurd lost
-end_behind-lost n (first ∷ rest) more lost = cond-false _ _ _ (ne_eqb first 0x47 lost)
+pub end_after-lost : (n : ℕ) (hand more : List ℕ) → IsOutOfSync hand → end_after n (hand ++ more) ≡ Sync n
+end_after-lost n [] more lost = absurd lost
+end_after-lost n (first ∷ rest) more lost = cond-false _ _ _ (ne_eqb first 0x47 lost)

@@ -28,7 +28,7 @@ use Rattle.stage_run.specs.Rows.{IsUnfinished}
 use Rattle.stage_run.specs.Feeds.{FeedStands, StandsAtSource, EndsWhenPut, IsFeedOf, part_of_feed, hand_of}
 use Rattle.stage_run.specs.InputStands.{InputStands, IsOpen, FitsTold, FeedGives, MayGive, stuffing_of, stuffed_so_far}
 use Rattle.stage_run.specs.Parts.{IsListOf, IsSourceOf, IsUnused, FailedReading, LeavesSource, LeavesInput, EndsByInput, SomeList}
-use Rattle.stage_run.proofs.PacketLemmas.{front-unfinished, packets_of-all, end_behind-unfinished}
+use Rattle.stage_run.proofs.PacketLemmas.{front-unfinished, packets_of-all, end_after-unfinished}
 use Rattle.stage_run.proofs.ContinuesLemmas.{ended-behind, within_limit-short, within_limit-ends}
 
 -- what a read fault leaves
@@ -45,7 +45,7 @@ failed_reading stuffing first now lists rows hand nulls are read_is source unfin
       source = source;
       in_sync = (
         length hand,
-        ap (λ (l : List ℕ). (input_of_bytes l).ended) read_is ∙ ended-behind rows hand are no_front ∙ end_behind-unfinished (length rows) hand unfinished,
+        ap (λ (l : List ℕ). (input_of_bytes l).ended) read_is ∙ ended-behind rows hand are no_front ∙ end_after-unfinished (length rows) hand unfinished,
       );
       given =
           sym (ap (λ (l : StageList). l.cells) (within_limit-short lists.given ReadFault within))

@@ -11,7 +11,7 @@ use Rattle.chain_model.proofs.ApplyLaws.{apply-ended, apply-last}
 use Rattle.chain_model.proofs.PrefixLemmas.{IsPrefix-apply}
 use Rattle.plugin_trait.specs.Driving.{Makes, end_of_window, made_so_far, TellsAgreement, newly_agreed}
 use Rattle.plugin_trait.specs.HeardStands.{HeardStands}
-use Rattle.plugin_trait.specs.Steps.{IsSteadyFor}
+use Rattle.plugin_trait.specs.Steps.{IsPreallocatedFor}
 use Rattle.plugin_trait.specs.declared.list_end.ListEnd.{ListEnd}
 use Rattle.plugin_trait.specs.declared.list_end.ListEnd.TheVariants.{Through}
 use Rattle.plugin_trait.specs.declared.list_end.ListEnd.TheVariants as window
@@ -26,7 +26,7 @@ use Rattle.stage_run.specs.declared.plugin_stage.PluginStage.{PluginStage}
 use Rattle.stage_run.specs.PartLists.{PartLists}
 use Rattle.stage_run.specs.PartStands.{MayWork}
 use Rattle.stage_run.specs.PluginSteps.{told_by}
-use Rattle.stage_run.specs.PluginStands.{PluginStands, end_behind_met}
+use Rattle.stage_run.specs.PluginStands.{PluginStands, end_after_met}
 use Rattle.stage_run.specs.Telling.{may_follow, followed, FollowsNews, told_of}
 use Rattle.stage_run.specs.Works.{Works, PluginWorks, PluginTells}
 use Rattle.plugin_trait.proofs.FarLemmas.{apply_after-append, apply_after-same_length}
@@ -70,10 +70,10 @@ through_all window.Stop news now rule met cells made makes none = cc
 through_all (window.Refuse reason) news now rule met cells made makes none = cc
 through_all window.NoMemory news now rule met cells made makes none = cc
 
-end_same : (end : ListEnd) (news : News) (now : ℕ) → end_of_window end ≡ end_behind_met (told_by end news now)
+end_same : (end : ListEnd) (news : News) (now : ℕ) → end_of_window end ≡ end_after_met (told_by end news now)
 end_same Through news now = by_follow (may_follow news now)
   where
-    by_follow : (b : Bool) → None ≡ end_behind_met (if b then Some Followed else None)
+    by_follow : (b : Bool) → None ≡ end_after_met (if b then Some Followed else None)
     by_follow true = refl
     by_follow false = refl
 end_same window.Last news now = refl
@@ -164,9 +164,9 @@ no_memory_told (window.Refuse reason) news now e = cc
 no_memory_told window.NoMemory news now e = refl
 
 -- what there is room for, there is room for less of
-pub steady_less : (steady : Option ℕ) (more less : ℕ) → less ≤ more → IsSteadyFor steady more → IsSteadyFor steady less
-steady_less None more less le is = absurd is
-steady_less (Some room) more less le is = omega arith
+pub preallocated_less : (preallocated : Option ℕ) (more less : ℕ) → less ≤ more → IsPreallocatedFor preallocated more → IsPreallocatedFor preallocated less
+preallocated_less None more less le is = absurd is
+preallocated_less (Some room) more less le is = omega arith
 
 tells_followed : (b : Bool) (list : StageList) (given : List Cell) (news : News) → given ≡ list.cells → list.ended ≡ None → may_follow news (length given) ≡ b
     → PluginTells list given news (if b then Some Followed else None)

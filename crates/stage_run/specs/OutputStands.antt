@@ -11,13 +11,13 @@ use Rattle.stage_run.specs.declared.output_stage.OutputStage.{OutputStage}
 use Rattle.stage_run.specs.PartLists.{PartLists}
 
 -- a sink that took what these cells write and a part of the packet after them, of which a write failed
-abbrev pub failed_behind : SinkView → List Cell → List ℕ → SinkView
-failed_behind first given part = write_failed (took first (written given ++ part))
+abbrev pub failed_after : SinkView → List Cell → List ℕ → SinkView
+failed_after first given part = write_failed (took first (written given ++ part))
 
 -- the sink took the bytes of the live cells that were given; after a write fault alone, and that is the last call,
 -- a part of the packet in hand too
 abbrev pub SinkTook : SinkView → SinkView → List Cell → List ℕ → Option StageEnd → Type 0
-SinkTook first now given cut (Some WriteFault) = now ≡ failed_behind first given cut
+SinkTook first now given cut (Some WriteFault) = now ≡ failed_after first given cut
 SinkTook first now given cut _ = (now ≡ took first (written given)) × (cut ≡ [])
 
 -- both are sinks, or both let everything go

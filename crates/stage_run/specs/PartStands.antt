@@ -12,7 +12,7 @@ use Rattle.stage_run.specs.declared.packet_feed.PacketFeed.{PacketFeed}
 use Rattle.stage_run.specs.declared.packet_feed.PacketFeed.TheVariants as feed
 use Rattle.stage_run.specs.declared.stage_part.StagePart.{StagePart}
 use Rattle.stage_run.specs.declared.stage_part.StagePart.TheVariants.{Input, Plugin, Output}
-use Rattle.plugin_trait.specs.Steps.{IsSteadyFor}
+use Rattle.plugin_trait.specs.Steps.{IsPreallocatedFor}
 use Rattle.stage_run.specs.Seeing.{Seeing}
 use Rattle.stage_run.specs.PartLists.{PartLists}
 use Rattle.stage_run.specs.InputStands.{InputStands, MayGive, stuffing_of}
@@ -37,10 +37,10 @@ rule_of see (Plugin stage) = see.rule stage.heard.plugin
 rule_of see (Output stage) = passing_rule
 
 -- where it is a number, a plugin made room before the run for notes on so many positions after its mark
-abbrev pub steady_of : {S K P : Type 0} → Seeing S K P → StagePart S K P → Option ℕ
-steady_of see (Input stage) = None
-steady_of see (Plugin stage) = see.steady stage.heard.plugin
-steady_of see (Output stage) = None
+abbrev pub preallocated_of : {S K P : Type 0} → Seeing S K P → StagePart S K P → Option ℕ
+preallocated_of see (Input stage) = None
+preallocated_of see (Plugin stage) = see.preallocated stage.heard.plugin
+preallocated_of see (Output stage) = None
 
 -- the stuffing of an input
 abbrev pub stuffing_in : {S K P : Type 0} → StagePart S K P → Option model.Stuffing
@@ -94,7 +94,7 @@ PartGives see (Output stage) lists input = Unit {0}
 -- a stage that works on so many positions after the mark may run out of memory: a plugin's, where no room was made for them
 abbrev pub MayWantMemory : {S K P : Type 0} → Seeing S K P → StagePart S K P → ℕ → Type 0
 MayWantMemory see (Input stage) ahead = ⊥
-MayWantMemory see (Plugin stage) ahead = IsSteadyFor (see.steady stage.heard.plugin) ahead → ⊥
+MayWantMemory see (Plugin stage) ahead = IsPreallocatedFor (see.preallocated stage.heard.plugin) ahead → ⊥
 MayWantMemory see (Output stage) ahead = ⊥
 
 -- a part that stands for these lists, and has not ended, may work after its first `at` cells with this mark

@@ -11,9 +11,9 @@ use Rattle.stage_run.specs.declared.plugin_stage.PluginStage.{PluginStage}
 use Rattle.stage_run.specs.PartLists.{PartLists}
 
 -- how the list of the cells that were met has ended: after a last packet, or not
-abbrev pub end_behind_met : Option StageEnd → Option OwnEnd
-end_behind_met (Some Last) = Some last_passed
-end_behind_met _ = None
+abbrev pub end_after_met : Option StageEnd → Option OwnEnd
+end_after_met (Some Last) = Some last_passed
+end_after_met _ = None
 
 -- the plugin met and gave these lists, reported this end, and has the lines of the cells below its mark
 pub record PluginStands {P : Type 0} (rule : P → PluginRule) (stands : P → List Cell → ℕ → Type 0)
@@ -22,5 +22,5 @@ pub record PluginStands {P : Type 0} (rule : P → PluginRule) (stands : P → L
   -- what was given is the plugin's image of what was met, cell by cell
   pub given : lists.given ≡ (apply (rule stage.heard.plugin) lists.met).cells
   pub length_same : length lists.given ≡ length lists.met
-  pub ended : (apply (rule stage.heard.plugin) lists.met).ended ≡ end_behind_met told
+  pub ended : (apply (rule stage.heard.plugin) lists.met).ended ≡ end_after_met told
   pub agreed : stage.agreed ≡ is_some (agreement_of (rule stage.heard.plugin) lists.met)

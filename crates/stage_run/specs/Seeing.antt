@@ -13,12 +13,12 @@ pub record Seeing (S K P : Type 0) : Type 1 where
   pub sink : K → SinkView
   pub rule : P → PluginRule
   pub stands : P → List Cell → ℕ → Type 0
-  pub steady : P → Option ℕ
+  pub preallocated : P → Option ℕ
 
 abbrev pub seeing : {S K P : Type 0} → (S → SourceView) → (K → SinkView) → (P → PluginRule)
     → (P → List Cell → ℕ → Type 0) → (P → Option ℕ) → Seeing S K P
-seeing source sink rule stands steady =
-    record { source = source; sink = sink; rule = rule; stands = stands; steady = steady }
+seeing source sink rule stands preallocated =
+    record { source = source; sink = sink; rule = rule; stands = stands; preallocated = preallocated }
 
 -- the same of a plugin with the lines that it gave out
 abbrev pub heard_rule : {S K P : Type 0} → Seeing S K P → Heard P → PluginRule
@@ -27,5 +27,5 @@ heard_rule see heard = see.rule heard.plugin
 abbrev pub heard_stands : {S K P : Type 0} → Seeing S K P → Heard P → List Cell → ℕ → Type 0
 heard_stands see = HeardStands see.rule see.stands
 
-abbrev pub heard_steady : {S K P : Type 0} → Seeing S K P → Heard P → Option ℕ
-heard_steady see heard = see.steady heard.plugin
+abbrev pub heard_preallocated : {S K P : Type 0} → Seeing S K P → Heard P → Option ℕ
+heard_preallocated see heard = see.preallocated heard.plugin

@@ -10,7 +10,7 @@ use Rattle.chain_model.specs.declared.input_end.InputEnd.TheVariants.{ReadFault}
 use Rattle.chain_model.specs.Prefix.{IsPrefix}
 use Rattle.chain_model.specs.PluginRule.{PluginRule, passing_rule}
 use Rattle.chain_model.specs.Apply.{StageList, apply}
-use Rattle.chain_model.specs.StageLists.{rule_behind}
+use Rattle.chain_model.specs.StageLists.{rule_after}
 use Rattle.chain_model.specs.Joint.{agreement_of}
 use Rattle.chain_core.specs.declared.news.News.{News}
 use Rattle.chain_core.specs.declared.stage_end.StageEnd.{StageEnd}
@@ -27,7 +27,7 @@ use Rattle.stage_run.specs.declared.plugin_stage.PluginStage.{PluginStage}
 use Rattle.stage_run.specs.declared.output_stage.OutputStage.{OutputStage}
 use Rattle.stage_run.specs.declared.stage_part.StagePart.{StagePart}
 use Rattle.stage_run.specs.declared.stage_part.StagePart.TheVariants as part
-use Rattle.plugin_trait.specs.Steps.{IsSteadyFor}
+use Rattle.plugin_trait.specs.Steps.{IsPreallocatedFor}
 use Rattle.plugin_trait.specs.Driving.{newly_agreed}
 use Rattle.stage_run.specs.Seeing.{Seeing}
 use Rattle.stage_run.specs.PartLists.{PartLists}
@@ -37,7 +37,7 @@ use Rattle.stage_run.specs.InputSteps.{FillsWindow}
 use Rattle.stage_run.specs.PluginStands.{PluginStands}
 use Rattle.stage_run.specs.OutputStands.{OutputStands, SamePart}
 use Rattle.chain_model.specs.Written.{IsPartOfFirst}
-use Rattle.stage_run.specs.PartStands.{PartStands, MayWork, MayWantMemory, rule_of, kind_of, steady_of, stuffing_in}
+use Rattle.stage_run.specs.PartStands.{PartStands, MayWork, MayWantMemory, rule_of, kind_of, preallocated_of, stuffing_in}
 use Rattle.stage_run.specs.Telling.{FollowsNews, may_follow, told_of, below_limit}
 
 -- the lists after a visit: more was met and given; what was read and written and the mark are a part's own
@@ -99,7 +99,7 @@ PluginTells list given news told = (given ≡ list.cells) × (told ≡ told_of l
 -- stage with the rule
 abbrev pub KeepsRule : PluginRule → PartLists → List Cell → List Cell → StageWord → ℕ → ℕ → Type 0
 KeepsRule rule before cells given word plugins j =
-    (rules : List PluginRule) (input : StageList) (rest : List Cell) → rule_behind rules j ≡ rule
+    (rules : List PluginRule) (input : StageList) (rest : List Cell) → rule_after rules j ≡ rule
     → StageKeeps rules input plugins (suc j) (before.met ++ (cells ++ rest)) before.given given word
 
 pub record PluginWorks (rule : PluginRule) (before : PartLists) (news : News) (cells cells_new : List Cell)
@@ -193,9 +193,9 @@ InputWork seen old new at news cells cells_new work =
 -- the work of a plugin's stage: it does not run out of memory where room was made for all that it is given to work on
 abbrev pub PluginWork : {P : Type 0} → (P → PluginRule) → (P → List Cell → ℕ → Type 0) → (P → Option ℕ)
     → PluginStage P → PluginStage P → ℕ → News → List Cell → List Cell → Work → Type 0
-PluginWork rule stands steady old new at news cells cells_new work =
+PluginWork rule stands preallocated old new at news cells cells_new work =
     StageWork (PluginStands rule stands old) (PluginStands rule stands new)
-    (λ ahead. IsSteadyFor (steady old.heard.plugin) ahead → ⊥) DoesAll
+    (λ ahead. IsPreallocatedFor (preallocated old.heard.plugin) ahead → ⊥) DoesAll
     (λ before. PluginWorks (rule old.heard.plugin) before news cells cells_new work) at news cells cells_new work
 
 -- the work of an output: it does not run out of memory
@@ -210,7 +210,7 @@ pub record PartWork {S K P : Type 0} (see : Seeing S K P) (old new : StagePart S
     (at : ℕ) (news : News) (cells cells_new : List Cell) (work : Work) : Type 0 where
   pub same_kind : kind_of new ≡ kind_of old
   pub same_rule : rule_of see new ≡ rule_of see old
-  pub same_steady : steady_of see new ≡ steady_of see old
+  pub same_preallocated : preallocated_of see new ≡ preallocated_of see old
   pub same_stuffing : stuffing_in new ≡ stuffing_in old
   pub stage : StageWork (PartStands see old) (PartStands see new) (MayWantMemory see old) (FillsByKind new)
       (λ before. WorksByKind see old new before news cells cells_new work) at news cells cells_new work

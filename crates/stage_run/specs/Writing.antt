@@ -5,7 +5,7 @@ use Rattle.ts_outside.specs.Sink.{SinkView, took}
 use Rattle.chain_model.specs.Written.{written, IsPartOfFirst}
 use Rattle.stage_run.specs.declared.output_part.OutputPart.{OutputPart}
 use Rattle.stage_run.specs.declared.output_part.OutputPart.TheVariants.{Stream, Discard}
-use Rattle.stage_run.specs.OutputStands.{failed_behind}
+use Rattle.stage_run.specs.OutputStands.{failed_after}
 
 -- the first bytes that cells write, so many of them, are those of all cells before a place and a part of the packet there
 pub record StandsAt (cells : List Cell) (bytes place : ℕ) : Type 0 where
@@ -16,7 +16,7 @@ pub record StandsAt (cells : List Cell) (bytes place : ℕ) : Type 0 where
 -- the sink took what the cells before a place write, and a call failed in the packet there
 pub record CutsAt (old new : SinkView) (cells : List Cell) (place : ℕ) : Type 0 where
   pub part : List ℕ
-  pub taken : new ≡ failed_behind old (take place cells) part
+  pub taken : new ≡ failed_after old (take place cells) part
   pub cut : IsPartOfFirst (drop place cells) part
 
 -- the sink took what all cells write, or a write failed in the packet of the cell at the place

@@ -38,7 +38,7 @@ impl<P: Plugin> PluginStage<P> {
     ghost use Rattle.chain_core.specs.declared.stage_end.StageEnd.{StageEnd};
     ghost use Rattle.ts_outside.specs.Source.{SourceView};
     ghost use Rattle.ts_outside.specs.Sink.{SinkView};
-    ghost use Rattle.plugin_trait.specs.Steps.{MeetsCells, IsSteadyFor};
+    ghost use Rattle.plugin_trait.specs.Steps.{MeetsCells, IsPreallocatedFor};
     ghost use Rattle.plugin_trait.specs.HeardStands.{HeardStands};
     ghost use Rattle.plugin_trait.specs.Driving.{Makes, made_so_far, TellsAgreement};
     ghost use Rattle.stage_run.specs.PluginSteps.{Allows, MayPass, StandsTold};
@@ -51,7 +51,7 @@ impl<P: Plugin> PluginStage<P> {
     pub(crate) fn of(heard: Heard<P>) -> Self
         requires { MeetsCells (HeardStands P.rule P.stands_for heard) 0 }
         ensures rule { P.rule result.heard.plugin ≡ P.rule heard.plugin }
-        ensures steady { P.steady result.heard.plugin ≡ P.steady heard.plugin }
+        ensures preallocated { P.preallocated result.heard.plugin ≡ P.preallocated heard.plugin }
         ensures stands { (source : SourceView) (sink : SinkView) (mark : ℕ)
             → HeardStands P.rule P.stands_for heard [] mark
             → PluginStands P.rule P.stands_for result (fresh_lists source sink mark) None }
@@ -94,8 +94,8 @@ impl<P: Plugin> PluginStage<P> {
             → TellsAgreement (P.rule self.old.heard.plugin) (history ++ take result.count cells.old)
             at result.agreed self.new.agreed }
         ensures same_rule { P.rule self.new.heard.plugin ≡ P.rule self.old.heard.plugin }
-        ensures same_steady { P.steady self.new.heard.plugin ≡ P.steady self.old.heard.plugin }
-        ensures room { IsSteadyFor (P.steady self.old.heard.plugin) (at + length cells.old - written)
+        ensures same_preallocated { P.preallocated self.new.heard.plugin ≡ P.preallocated self.old.heard.plugin }
+        ensures room { IsPreallocatedFor (P.preallocated self.old.heard.plugin) (at + length cells.old - written)
             → result.end ≢ ListEnd.NoMemory }
     {
         let heard = &mut self.heard;
@@ -123,8 +123,8 @@ impl<P: Plugin> PluginStage<P> {
         requires in_hand { at + length cells.old ≤ news.now.taken }
         requires in_range { at + length cells.old ≤ POSITION_LIMIT }
         ensures same_rule { P.rule self.new.heard.plugin ≡ P.rule self.old.heard.plugin }
-        ensures same_steady { P.steady self.new.heard.plugin ≡ P.steady self.old.heard.plugin }
-        ensures work { PluginWork P.rule P.stands_for P.steady self.old self.new
+        ensures same_preallocated { P.preallocated self.new.heard.plugin ≡ P.preallocated self.old.heard.plugin }
+        ensures work { PluginWork P.rule P.stands_for P.preallocated self.old self.new
             at news.now cells.old cells.new result }
     {
         if cells.is_empty() {

@@ -32,7 +32,7 @@ impl<S: Source, K: Sink, P: Plugin> StagePart<S, K, P> {
     ghost use Rattle.stage_run.specs.PartLists.{PartLists, fresh_lists};
     ghost use Rattle.stage_run.specs.InputStands.{stuffing_of};
     ghost use Rattle.stage_run.specs.Parts.{IsListOf, IsSourceOf, IsSinkOf, IsUnused, LeavesInput, LeavesOutput, SomeList};
-    ghost use Rattle.stage_run.specs.PartStands.{PartStands, PartGives, MayWork, MayWorkOnSome, rule_of, steady_of, kind_of, stuffing_in, source_kind, sink_kind, stream_kind, an_input, a_plugin, an_output};
+    ghost use Rattle.stage_run.specs.PartStands.{PartStands, PartGives, MayWork, MayWorkOnSome, rule_of, preallocated_of, kind_of, stuffing_in, source_kind, sink_kind, stream_kind, an_input, a_plugin, an_output};
     ghost use Rattle.stage_run.specs.Works.{PartWork};
 
     /// The input's stage. It reads into the buffer. Nothing was read or given yet.
@@ -43,10 +43,10 @@ impl<S: Source, K: Sink, P: Plugin> StagePart<S, K, P> {
         ensures stream { stream_kind result ≡ source_kind part }
         ensures stuffing { stuffing_in result ≡ Some (stuffing_of stuffing) }
         ensures stands { (source : SourceView) (sink : SinkView) (mark : ℕ) → IsSourceOf S.seen part source
-            → PartStands (seeing S.seen K.seen P.rule P.stands_for P.steady) result
+            → PartStands (seeing S.seen K.seen P.rule P.stands_for P.preallocated) result
             (fresh_lists source sink mark) None }
         ensures gives { (source : SourceView) (sink : SinkView) (mark : ℕ) (input : StageList)
-            → PartGives (seeing S.seen K.seen P.rule P.stands_for P.steady) result
+            → PartGives (seeing S.seen K.seen P.rule P.stands_for P.preallocated) result
             (fresh_lists source sink mark) input ↔ IsListOf S.seen part (stuffing_of stuffing) input }
     {
         StagePart::Input(InputStage::of(part, stuffing, room))
@@ -56,12 +56,12 @@ impl<S: Source, K: Sink, P: Plugin> StagePart<S, K, P> {
     pub fn of_plugin(heard: Heard<P>) -> Self
         requires { MeetsCells (HeardStands P.rule P.stands_for heard) 0 }
         ensures kind { kind_of result ≡ a_plugin }
-        ensures rule { rule_of (seeing S.seen K.seen P.rule P.stands_for P.steady) result ≡ P.rule heard.plugin }
-        ensures steady { steady_of (seeing S.seen K.seen P.rule P.stands_for P.steady) result
-            ≡ P.steady heard.plugin }
+        ensures rule { rule_of (seeing S.seen K.seen P.rule P.stands_for P.preallocated) result ≡ P.rule heard.plugin }
+        ensures preallocated { preallocated_of (seeing S.seen K.seen P.rule P.stands_for P.preallocated) result
+            ≡ P.preallocated heard.plugin }
         ensures stands { (source : SourceView) (sink : SinkView) (mark : ℕ)
             → HeardStands P.rule P.stands_for heard [] mark
-            → PartStands (seeing S.seen K.seen P.rule P.stands_for P.steady) result
+            → PartStands (seeing S.seen K.seen P.rule P.stands_for P.preallocated) result
             (fresh_lists source sink mark) None }
     {
         StagePart::Plugin(PluginStage::of(heard))
@@ -72,7 +72,7 @@ impl<S: Source, K: Sink, P: Plugin> StagePart<S, K, P> {
         ensures kind { kind_of result ≡ an_output }
         ensures stream { stream_kind result ≡ sink_kind part }
         ensures stands { (source : SourceView) (sink : SinkView) (mark : ℕ) → IsSinkOf K.seen part sink
-            → PartStands (seeing S.seen K.seen P.rule P.stands_for P.steady) result
+            → PartStands (seeing S.seen K.seen P.rule P.stands_for P.preallocated) result
             (fresh_lists source sink mark) None }
     {
         StagePart::Output(OutputStage::of(part, room))
@@ -84,11 +84,11 @@ impl<S: Source, K: Sink, P: Plugin> StagePart<S, K, P> {
         requires { kind_of self ≡ an_input }
         ensures stream { source_kind result ≡ stream_kind self }
         ensures leaves { (lists : PartLists) (told : Option StageEnd) (stuffing : model.Stuffing)
-            → PartStands (seeing S.seen K.seen P.rule P.stands_for P.steady) self lists told
+            → PartStands (seeing S.seen K.seen P.rule P.stands_for P.preallocated) self lists told
             → stuffing_in self ≡ Some stuffing → LeavesInput S.seen result stuffing lists told }
         ensures some_list { (lists : PartLists) (told : Option StageEnd)
-            → PartStands (seeing S.seen K.seen P.rule P.stands_for P.steady) self lists told
-            → SomeList (PartGives (seeing S.seen K.seen P.rule P.stands_for P.steady) self lists) }
+            → PartStands (seeing S.seen K.seen P.rule P.stands_for P.preallocated) self lists told
+            → SomeList (PartGives (seeing S.seen K.seen P.rule P.stands_for P.preallocated) self lists) }
     {
         match self {
             StagePart::Input(stage) => stage.into_part(),
@@ -99,9 +99,9 @@ impl<S: Source, K: Sink, P: Plugin> StagePart<S, K, P> {
     /// Returns the plugin with the lines that it gave out.
     pub fn into_plugin(self) -> Heard<P>
         requires { kind_of self ≡ a_plugin }
-        ensures rule { P.rule result.plugin ≡ rule_of (seeing S.seen K.seen P.rule P.stands_for P.steady) self }
+        ensures rule { P.rule result.plugin ≡ rule_of (seeing S.seen K.seen P.rule P.stands_for P.preallocated) self }
         ensures stands { (lists : PartLists) (told : Option StageEnd)
-            → PartStands (seeing S.seen K.seen P.rule P.stands_for P.steady) self lists told
+            → PartStands (seeing S.seen K.seen P.rule P.stands_for P.preallocated) self lists told
             → HeardStands P.rule P.stands_for result lists.met lists.mark }
     {
         match self {
@@ -115,7 +115,7 @@ impl<S: Source, K: Sink, P: Plugin> StagePart<S, K, P> {
         requires { kind_of self ≡ an_output }
         ensures stream { sink_kind result ≡ stream_kind self }
         ensures leaves { (lists : PartLists) (told : Option StageEnd)
-            → PartStands (seeing S.seen K.seen P.rule P.stands_for P.steady) self lists told
+            → PartStands (seeing S.seen K.seen P.rule P.stands_for P.preallocated) self lists told
             → LeavesOutput K.seen result lists told }
     {
         match self {
@@ -138,12 +138,12 @@ impl<S: Source, K: Sink, P: Plugin> StagePart<S, K, P> {
         news: &News,
         gate: &G,
     ) -> Work
-        requires stands { MayWorkOnSome (PartStands (seeing S.seen K.seen P.rule P.stands_for P.steady)
+        requires stands { MayWorkOnSome (PartStands (seeing S.seen K.seen P.rule P.stands_for P.preallocated)
             self.old) at news.now.written }
         requires written { news.now.written ≤ at }
         requires in_hand { at + length cells.old ≤ news.now.taken }
         requires in_range { news.now.taken ≤ POSITION_LIMIT }
-        ensures { PartWork (seeing S.seen K.seen P.rule P.stands_for P.steady) self.old self.new
+        ensures { PartWork (seeing S.seen K.seen P.rule P.stands_for P.preallocated) self.old self.new
             at news.now cells.old cells.new result }
     {
         match self {

@@ -2,7 +2,7 @@
 use Rattle.std.proofs.Common.{◌≡◌, ℕ, zero, suc, ◌+◌, ◌<◌, List, [], ◌∷◌, ◌++◌, length, take, Option, None, Some, refl, ap, sym, ◌∙◌, subst, arith, ◌≤◌, ◌⊎◌, inl, inr}
 use Rattle.std.specs.Prelude.{IsSome, option_and_then, codes}
 use Rattle.std.proofs.Common.{drop, slice_index_or, map}
-use Rattle.option_words.specs.Number.{number_within, number_of}
+use Rattle.plugin_options.specs.Number.{number_within, number_of}
 use Rattle.std.proofs.Common.{Result, Ok, Err}
 use Rattle.switch_args.specs.declared.reading.Reading.{Reading}
 use Rattle.switch_args.specs.declared.settings.SwitchSettings.{SwitchSettings}

@@ -1,4 +1,4 @@
 mod FormLemmas
 mod WordsBackLemmas
-mod LawfulLemmas
+mod ValidLemmas
 mod Rows

@@ -1,7 +1,7 @@
 -- Worked rows of the words of `tsswitch`, computed on the definitions.
 use Rattle.std.proofs.Common.{◌≡◌, [], ◌∷◌, None, Some, refl}
 use Rattle.std.specs.Prelude.{codes}
-use Rattle.option_words.specs.Number.{number_within, number_of}
+use Rattle.plugin_options.specs.Number.{number_within, number_of}
 use Rattle.switch_args.specs.SwitchWords.{read_of, to_file, dropped}
 
 two-inputs : read_of (codes "--cycle" ∷ codes "2" ∷ codes "-I" ∷ codes "file" ∷ codes "A" ∷ codes "-I" ∷ codes "file" ∷ codes "B" ∷ codes "-O" ∷ codes "file" ∷ codes "C" ∷ [])

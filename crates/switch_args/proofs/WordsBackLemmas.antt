@@ -8,9 +8,9 @@ use Rattle.std.specs.Str.Parse.{AllDigits, digits_value}
 use Rattle.std.proofs.lemmas.Fmt.{decimal_is_IsNumeral}
 use Rattle.std.proofs.lemmas.Bool.{lt-ltb, and_from, ne_eqb}
 use Rattle.std.proofs.lemmas.Bool.Decides.{nat_tests}
-use Rattle.option_words.specs.Number.{number_within, number_of, numeral, if_within}
+use Rattle.plugin_options.specs.Number.{number_within, number_of, numeral, if_within}
 use Rattle.switch_args.specs.SwitchWords.{Given, Output, to_file, dropped, an_option_or_input, the_input_kind, the_input_name, an_input_or_output, nothing, Place, place, place_after, start, may_end, read_of, is_name, if_so}
-use Rattle.switch_args.specs.LawfulSettings.{IsLawful, IsLawfulOutput, words_of, number_words, input_words, output_words}
+use Rattle.switch_args.specs.ValidSettings.{IsValid, IsValidOutput, words_of, number_words, input_words, output_words}
 use Rattle.switch_args.proofs.FormLemmas.{after-append}
 
 -- ---- a number in decimal digits
@@ -101,7 +101,7 @@ module _ (cycle buffer : Option ℕ) where
       let a = names-first name names all in
       first-input name (input_words names) a.0 ∙ more-inputs (name ∷ []) names (omega (arith, few)) a.1
 
-  output-end : (names : List (List ℕ)) (output : Output) → IsLawfulOutput output
+  output-end : (names : List (List ℕ)) (output : Output) → IsValidOutput output
       → option_and_then may_end (place_after (place (given cycle buffer names) an_input_or_output) (output_words output)) ≡ Some (record { cycle = cycle; buffer = buffer; inputs = names; output = output })
   output-end names (to_file []) l = refl
   output-end names (to_file (x ∷ xs)) l =
@@ -111,7 +111,7 @@ module _ (cycle buffer : Option ℕ) where
 after : (p q : Place) (a b : List (List ℕ)) → place_after p a ≡ Some q → place_after p (a ++ b) ≡ place_after q b
 after p q a b e = after-append p a b ∙ ap (option_and_then (λ r. place_after r b)) e
 
-pub read-back : (g : Given) → IsLawful g → read_of (words_of g) ≡ Some g
+pub read-back : (g : Given) → IsValid g → read_of (words_of g) ≡ Some g
 read-back g l =
     ap (option_and_then may_end)
     (after start (place (given g.cycle None []) an_option_or_input) (number_words (codes "--cycle") g.cycle) _ (cycle-words g.cycle l.cycle)

@@ -1,4 +1,4 @@
 -- The definitions of `switch_args`: the form of the words of `tsswitch`, and their settings.
 pub mod SwitchWords
-pub mod LawfulSettings
+pub mod ValidSettings
 pub mod Readings

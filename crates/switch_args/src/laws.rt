@@ -1,7 +1,7 @@
 //! Laws on every list of words. They run nothing.
 ghost use Rattle.std.specs.Prelude.{◌≡◌, ◌≤◌, ℕ, List, length, take, None, Some, IsSome, ◌++◌, ◌∷◌};
 ghost use Rattle.switch_args.specs.SwitchWords.{Given, Place, IsFirstFault, place_after, read_of, start, step, may_end};
-ghost use Rattle.switch_args.specs.LawfulSettings.{IsLawful, words_of};
+ghost use Rattle.switch_args.specs.ValidSettings.{IsValid, words_of};
 
 /// A law; it runs nothing. If the words before one lead to a place at which it may not stand, it is the first fault;
 /// if all words lead to a place at which they may not end, their number is. Words of the form have no first fault.
@@ -17,6 +17,6 @@ pub fn first_fault_law()
 /// A law; it runs nothing. The words of any valid settings, written out, are read as these settings; and what is read
 /// is valid.
 pub fn words_read_back()
-    ensures back { (given : Given) → IsLawful given → read_of (words_of given) ≡ Some given }
-    ensures lawful { (words : List (List ℕ)) (given : Given) → read_of words ≡ Some given → IsLawful given }
+    ensures back { (given : Given) → IsValid given → read_of (words_of given) ≡ Some given }
+    ensures valid { (words : List (List ℕ)) (given : Given) → read_of words ≡ Some given → IsValid given }
 {}

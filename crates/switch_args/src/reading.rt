@@ -6,7 +6,7 @@ ghost use Rattle.switch_args.specs.Readings.{Went, given_of, expected_of, output
 
 use crate::settings::{SwitchOutput, SwitchSettings};
 use crate::words::WordsFault;
-use option_words::read_number_within;
+use plugin_options::read_number_within;
 use std::alloc::{AllocError, Global};
 use ts_outside::NameText;
 

@@ -2,7 +2,7 @@
 ghost use Rattle.std.specs.Prelude.{◌≡◌, List, map, IfOk};
 ghost use Rattle.std.specs.String.{string_bytes};
 ghost use Rattle.switch_args.specs.Readings.{ReadsWords, given_of_settings};
-ghost use Rattle.switch_args.specs.LawfulSettings.{IsLawful};
+ghost use Rattle.switch_args.specs.ValidSettings.{IsValid};
 
 use crate::reading::Reading;
 use crate::settings::SwitchSettings;
@@ -22,7 +22,7 @@ pub enum WordsFault {
 /// once; then `-I file NAME`, once for each of 1 to 32 inputs; and at most once `-O file NAME` or `-O drop`.
 pub fn read_words(alloc: Global, words: &[String]) -> Result<SwitchSettings, WordsFault>
     ensures read { ReadsWords (map string_bytes words.now) result }
-    ensures lawful { IfOk result (λ settings. IsLawful (given_of_settings settings)) }
+    ensures valid { IfOk result (λ settings. IsValid (given_of_settings settings)) }
 {
     let mut reading = Reading::new(alloc);
     let mut at = 0;

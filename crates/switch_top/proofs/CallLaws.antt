@@ -17,15 +17,15 @@ use Rattle.chain_model.specs.declared.input_end.InputEnd.{InputEnd}
 use Rattle.chain_model.specs.declared.input_end.InputEnd.TheVariants as how
 use Rattle.chain_model.specs.Apply.{input_over}
 use Rattle.chain_model.specs.Written.{written, cell_bytes, IsPartOfFirst}
-use Rattle.play_run.specs.declared.played.PlayEnd.{PlayEnd}
-use Rattle.play_run.specs.declared.played.PlayEnd.TheVariants.{Input, WriteFault}
-use Rattle.play_run.specs.PlayList.{play_of, cause_of, GivesAll, EndsAs}
+use Rattle.chain_plays.specs.declared.played.PlayEnd.{PlayEnd}
+use Rattle.chain_plays.specs.declared.played.PlayEnd.TheVariants.{Input, WriteFault}
+use Rattle.chain_plays.specs.PlayList.{play_of, cause_of, GivesAll, EndsAs}
 use Rattle.switch_top.specs.declared.status.SwitchStatus.{SwitchStatus}
 use Rattle.switch_top.specs.declared.status.SwitchStatus.TheVariants as status
 use Rattle.switch_top.specs.PlayNames.{PlayName}
 use Rattle.switch_top.specs.Lines.{play_line, switch_end_line}
 use Rattle.switch_top.specs.Switched.{PlayList, lists_of, played, switched, end_of_list, line_of, switched_report, is_plain, last_of}
-use Rattle.switch_top.specs.PlaysBehind.{names_of, cells_of, lines_of, sources_of, all_asked, asked_of, with_inputs, LastRead, AsksNext}
+use Rattle.switch_top.specs.PlaysAfter.{names_of, cells_of, lines_of, sources_of, all_asked, asked_of, with_inputs, LastRead, AsksNext}
 use Rattle.switch_top.specs.SwitchEnds.{status_of, when_late, IsPart, SwitchRan, SwitchWanted}
 use Rattle.switch_top.specs.SwitchTheorem.{IsPureSwitch, WritesSwitched, WritesFirst, TellsWhole, NothingLate, status_of_plays, ReadFailed}
 use Rattle.switch_top.proofs.SwitchLemmas.{flat-append, length-append}

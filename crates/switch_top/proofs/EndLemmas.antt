@@ -15,17 +15,17 @@ use Rattle.chain_core.specs.declared.core_plan.CorePlan.{CorePlan}
 use Rattle.stage_run.specs.declared.output_part.OutputPart.{OutputPart}
 use Rattle.stage_run.specs.declared.output_part.OutputPart.TheVariants as out
 use Rattle.chain_run.specs.RunOf.{LeftOutput}
-use Rattle.play_run.specs.declared.played.PlayEnd.{PlayEnd}
-use Rattle.play_run.specs.declared.played.PlayEnd.TheVariants.{Input, WriteFault}
+use Rattle.chain_plays.specs.declared.played.PlayEnd.{PlayEnd}
+use Rattle.chain_plays.specs.declared.played.PlayEnd.TheVariants.{Input, WriteFault}
 use Rattle.chain_model.specs.declared.input_end.InputEnd.TheVariants.{End, Sync, ReadFault, TooLong}
-use Rattle.play_run.specs.PlayList.{play_of, cause_of}
+use Rattle.chain_plays.specs.PlayList.{play_of, cause_of}
 use Rattle.switch_top.specs.Nexts.{PlayKind}
 use Rattle.switch_top.specs.declared.status.SwitchStatus.{SwitchStatus}
 use Rattle.switch_top.specs.declared.stepping.Switched.{Switched}
 use Rattle.switch_top.specs.PlayNames.{PlayName}
 use Rattle.switch_top.specs.Lines.{play_line, switch_end_line}
 use Rattle.switch_top.specs.SoFar.{OutputTook, RanTo}
-use Rattle.switch_top.specs.PlaysBehind.{cells_of, lines_of}
+use Rattle.switch_top.specs.PlaysAfter.{cells_of, lines_of}
 use Rattle.ts_outside.specs.Saying.{Says}
 use Rattle.ts_outside.specs.Entries.{outputs_with}
 use Rattle.switch_top.specs.SwitchEnds.{ReportsPlays, CountsOutput, IsPart, SwitchRan, SwitchWanted}

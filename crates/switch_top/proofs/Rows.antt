@@ -6,9 +6,9 @@ use Rattle.ts_packet.specs.declared.cell.Cell.{Cell}
 use Rattle.ts_packet.specs.Cells.{Live}
 use Rattle.ts_packet.specs.Labels.{no_labels}
 use Rattle.chain_model.specs.declared.input_end.InputEnd.TheVariants.{End, ReadFault}
-use Rattle.play_run.specs.declared.played.PlayEnd.TheVariants.{Input}
+use Rattle.chain_plays.specs.declared.played.PlayEnd.TheVariants.{Input}
 use Rattle.switch_top.specs.Lines.{play_line, switch_end_line}
-use Rattle.play_run.specs.PlayList.{play_of}
+use Rattle.chain_plays.specs.PlayList.{play_of}
 use Rattle.switch_top.specs.Switched.{switched, PlayList, switched_report}
 
 abbrev packet : ℕ → List ℕ

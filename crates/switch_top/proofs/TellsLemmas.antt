@@ -19,16 +19,16 @@ use Rattle.chain_model.specs.Stuffed.{no_stuffing}
 use Rattle.chain_model.specs.InputRead.{list_at_fault}
 use Rattle.chain_model.specs.Each.{Each}
 use Rattle.switch_args.specs.SwitchWords.{Given, read_of, IsBeginning, IsFirstFault}
-use Rattle.switch_args.specs.LawfulSettings.{IsLawful}
-use Rattle.play_run.specs.declared.played.PlayEnd.{PlayEnd}
-use Rattle.play_run.specs.declared.played.PlayEnd.TheVariants.{Input, WriteFault}
-use Rattle.play_run.specs.PlayList.{play_of, cause_of, EndsAs}
+use Rattle.switch_args.specs.ValidSettings.{IsValid}
+use Rattle.chain_plays.specs.declared.played.PlayEnd.{PlayEnd}
+use Rattle.chain_plays.specs.declared.played.PlayEnd.TheVariants.{Input, WriteFault}
+use Rattle.chain_plays.specs.PlayList.{play_of, cause_of, EndsAs}
 use Rattle.switch_top.specs.declared.status.SwitchStatus.{SwitchStatus}
 use Rattle.switch_top.specs.declared.status.SwitchStatus.TheVariants as status
 use Rattle.switch_top.specs.PlayNames.{PlayName, numbered, rows_of}
 use Rattle.switch_top.specs.Lines.{play_line, switch_end_line}
 use Rattle.switch_top.specs.Switched.{PlayList, lists_of, is_plain}
-use Rattle.switch_top.specs.PlaysBehind.{Behind, names_of, cells_of, lines_of, asked_of, all_asked, sources_of, with_inputs, AsksNext, LastRead}
+use Rattle.switch_top.specs.PlaysAfter.{Behind, names_of, cells_of, lines_of, asked_of, all_asked, sources_of, with_inputs, AsksNext, LastRead}
 use Rattle.switch_top.specs.SwitchEnds.{SwitchesPlan, no_output, out_of_memory, wanted, ran, SwitchRan, IsPart, output_name, opened_as}
 use Rattle.switch_top.specs.SwitchCall.{CallsSwitch, at_words, no_room, at_plan}
 use Rattle.switch_top.specs.SwitchPlans.{plays_of}
@@ -259,13 +259,13 @@ module _ (files : List (List ℕ × List ℕ)) (buffer : ℕ) (names : List Play
     | inr n ↦ subst (StatusTells files names (Some name) old new) (sym n.0) tt
   ]
 
-pub call-tells : ((words : List (List ℕ)) → NoFault words) → ((words : List (List ℕ)) (given : Given) → read_of words ≡ Some given → IsLawful given) → (words : List (List ℕ)) (given : Given) (files : List (List ℕ × List ℕ)) (old new : DeskView) (answer : SwitchStatus)
+pub call-tells : ((words : List (List ℕ)) → NoFault words) → ((words : List (List ℕ)) (given : Given) → read_of words ≡ Some given → IsValid given) → (words : List (List ℕ)) (given : Given) (files : List (List ℕ × List ℕ)) (old new : DeskView) (answer : SwitchStatus)
     → read_of words ≡ Some given → old.files ≡ Some files → CallsSwitch words old new answer → StatusTells files (plays_of given) (output_name given.output) old new answer
-call-tells law lawful words given files old new answer read told (at_words word failed is fault says) = absurd (law words given word read fault)
-call-tells law lawful words given files old new answer read told (no_room is same) = subst (StatusTells files (plays_of given) (output_name given.output) old new) (sym is) tt
-call-tells law lawful words given files old new answer read told (at_plan other is buffer size switches) =
+call-tells law valid words given files old new answer read told (at_words word failed is fault says) = absurd (law words given word read fault)
+call-tells law valid words given files old new answer read told (no_room is same) = subst (StatusTells files (plays_of given) (output_name given.output) old new) (sym is) tt
+call-tells law valid words given files old new answer read told (at_plan other is buffer size switches) =
     let same : other ≡ given = (let f : Some other ≡ Some given = sym is ∙ read in cc) in
-    plan-tells files buffer (plays_of given) old new answer told (small-rows (unwrap_or given.cycle 1) given.inputs (lawful words given read).few) (output_name given.output)
+    plan-tells files buffer (plays_of given) old new answer told (small-rows (unwrap_or given.cycle 1) given.inputs (valid words given read).few) (output_name given.output)
     (subst (λ (g : Given). SwitchesPlan buffer (plays_of g) (output_name g.output) old new answer) same switches)
 
 -- ---- faulty words

@@ -11,8 +11,8 @@ use Rattle.ts_outside.specs.Faultless.{NothingFails}
 use Rattle.chain_model.specs.declared.input_end.InputEnd.TheVariants as how
 use Rattle.chain_model.specs.Apply.{OwnEnd, input_over}
 use Rattle.switch_args.specs.SwitchWords.{Given, read_of, IsFirstFault}
-use Rattle.play_run.specs.declared.played.PlayEnd.{PlayEnd}
-use Rattle.play_run.specs.declared.played.PlayEnd.TheVariants.{Input, WriteFault}
+use Rattle.chain_plays.specs.declared.played.PlayEnd.{PlayEnd}
+use Rattle.chain_plays.specs.declared.played.PlayEnd.TheVariants.{Input, WriteFault}
 use Rattle.switch_top.specs.declared.status.SwitchStatus.{SwitchStatus}
 use Rattle.switch_top.specs.declared.status.SwitchStatus.TheVariants as status
 use Rattle.switch_top.specs.PlayNames.{PlayName}

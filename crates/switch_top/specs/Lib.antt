@@ -3,7 +3,7 @@ pub mod PlayNames
 pub mod Lines
 pub mod Switched
 pub mod Nexts
-pub mod PlaysBehind
+pub mod PlaysAfter
 pub mod SoFar
 pub mod SwitchEnds
 pub mod OutputKept

@@ -5,7 +5,7 @@ use Rattle.ts_outside.specs.Sink.{SinkView}
 use Rattle.ts_outside.specs.declared.requests.Purpose.TheVariants.{Input}
 use Rattle.ts_outside.specs.Source.{SourceView, own_bytes}
 use Rattle.ts_outside.specs.Desk.{DeskView, content, asked_well, asked_in_vain, input_closed}
-use Rattle.play_run.specs.Abandoned.{WasAbandoned}
+use Rattle.chain_plays.specs.Abandoned.{WasAbandoned}
 use Rattle.switch_top.specs.declared.plays_left.PlaysLeft.{PlaysLeft}
 use Rattle.switch_top.specs.declared.switching.NextPlay.{NextPlay}
 use Rattle.switch_top.specs.declared.switching.NextPlay.TheVariants.{NoMore, Open, Failed}

@@ -12,15 +12,15 @@ use Rattle.ts_outside.specs.Entries.{outputs_with}
 use Rattle.chain_model.specs.declared.input_end.InputEnd.TheVariants as how
 use Rattle.chain_model.specs.Written.{written, IsPartOfFirst}
 use Rattle.chain_model.specs.Each.{Each}
-use Rattle.play_run.specs.declared.played.PlayEnd.{PlayEnd}
-use Rattle.play_run.specs.declared.played.PlayEnd.TheVariants.{Input, WriteFault}
-use Rattle.play_run.specs.PlayList.{play_of, EndsAs}
+use Rattle.chain_plays.specs.declared.played.PlayEnd.{PlayEnd}
+use Rattle.chain_plays.specs.declared.played.PlayEnd.TheVariants.{Input, WriteFault}
+use Rattle.chain_plays.specs.PlayList.{play_of, EndsAs}
 use Rattle.switch_args.specs.SwitchWords.{Output, to_file, dropped}
 use Rattle.switch_top.specs.declared.status.SwitchStatus.{SwitchStatus}
 use Rattle.switch_top.specs.declared.status.SwitchStatus.TheVariants as status
 use Rattle.switch_top.specs.PlayNames.{PlayName}
 use Rattle.switch_top.specs.Lines.{play_line, switch_end_line}
-use Rattle.switch_top.specs.PlaysBehind.{Behind, IsBehind, names_of, cells_of, lines_of, all_asked, asked_of, with_inputs, LastRead, AskedFirst}
+use Rattle.switch_top.specs.PlaysAfter.{Behind, IsAfter, names_of, cells_of, lines_of, all_asked, asked_of, with_inputs, LastRead, AskedFirst}
 
 -- the status of the last play's end; the number of the input has 32 bits
 abbrev pub status_of : ℕ → PlayEnd → SwitchStatus
@@ -57,7 +57,7 @@ IsPart cells n WriteFault part = IsPartOfFirst (drop n cells) part
 pub record SwitchRan (buffer : ℕ) (names : List PlayName) (output : Option (List ℕ)) (start new : DeskView)
     (answer : SwitchStatus) : Type 0 where
   pub behind : List Behind
-  pub all : Each (IsBehind start) behind
+  pub all : Each (IsAfter start) behind
   pub input : ℕ
   pub name : List ℕ
   pub later : List PlayName
@@ -93,7 +93,7 @@ pub record SwitchRan (buffer : ℕ) (names : List PlayName) (output : Option (Li
 pub record SwitchWanted (names : List PlayName) (output : Option (List ℕ)) (start new : DeskView) (answer : SwitchStatus) : Type 0 where
   pub answer_is : answer ≡ status.NoMemory
   pub behind : List Behind
-  pub all : Each (IsBehind start) behind
+  pub all : Each (IsAfter start) behind
   pub later : List PlayName
   pub names_are : names ≡ names_of behind ++ later
   -- of the next play some packets may have been written

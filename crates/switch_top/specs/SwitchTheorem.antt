@@ -13,16 +13,16 @@ use Rattle.chain_model.specs.Written.{written}
 use Rattle.chain_model.specs.Stuffed.{no_stuffing}
 use Rattle.chain_model.specs.declared.input_end.InputEnd.TheVariants as how
 use Rattle.chain_model.specs.InputRead.{list_at_fault}
-use Rattle.play_run.specs.declared.played.PlayEnd.{PlayEnd}
-use Rattle.play_run.specs.declared.played.PlayEnd.TheVariants.{Input, WriteFault}
-use Rattle.play_run.specs.PlayList.{play_of, EndsAs}
+use Rattle.chain_plays.specs.declared.played.PlayEnd.{PlayEnd}
+use Rattle.chain_plays.specs.declared.played.PlayEnd.TheVariants.{Input, WriteFault}
+use Rattle.chain_plays.specs.PlayList.{play_of, EndsAs}
 use Rattle.switch_args.specs.SwitchWords.{Given}
 use Rattle.switch_top.specs.declared.status.SwitchStatus.{SwitchStatus}
 use Rattle.switch_top.specs.declared.status.SwitchStatus.TheVariants as status
 use Rattle.switch_top.specs.PlayNames.{PlayName}
 use Rattle.switch_top.specs.Lines.{play_line, switch_end_line}
 use Rattle.switch_top.specs.Switched.{PlayList, lists_of, is_plain, played, switched, end_of_list, line_of, last_of, switched_report}
-use Rattle.switch_top.specs.PlaysBehind.{asked_of, with_inputs}
+use Rattle.switch_top.specs.PlaysAfter.{asked_of, with_inputs}
 use Rattle.switch_top.specs.SwitchEnds.{status_of, opened_as, IsPart}
 use Rattle.switch_top.specs.SwitchPlans.{plays_of}
 

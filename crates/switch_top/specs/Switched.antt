@@ -6,9 +6,9 @@ use Rattle.ts_packet.specs.declared.cell.Cell.{Cell}
 use Rattle.ts_outside.specs.Desk.{file_of}
 use Rattle.chain_model.specs.declared.input_end.InputEnd.TheVariants.{End}
 use Rattle.chain_model.specs.Apply.{StageList, OwnEnd, input_over}
-use Rattle.play_run.specs.declared.played.PlayEnd.{PlayEnd}
-use Rattle.play_run.specs.declared.played.PlayEnd.TheVariants.{Input, WriteFault}
-use Rattle.play_run.specs.PlayList.{play_of}
+use Rattle.chain_plays.specs.declared.played.PlayEnd.{PlayEnd}
+use Rattle.chain_plays.specs.declared.played.PlayEnd.TheVariants.{Input, WriteFault}
+use Rattle.chain_plays.specs.PlayList.{play_of}
 use Rattle.switch_top.specs.PlayNames.{PlayName}
 use Rattle.switch_top.specs.Lines.{play_line, switch_end_line}
 

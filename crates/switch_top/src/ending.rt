@@ -14,7 +14,7 @@ ghost use Rattle.switch_top.specs.OutputKept.{closed_as, ClosesWell, IsOutputOf}
 use crate::lines::end_line_text;
 use crate::status::{SwitchStatus, status_if_late, status_of};
 use crate::stepping::{AllPlayed, Switched};
-use play_run::{OpenPlay, PlayEnd};
+use chain_plays::{OpenPlay, PlayEnd};
 use stage_run::OutputPart;
 use std::alloc::{AllocError, Global};
 use ts_outside::{Desk, Failed, say};

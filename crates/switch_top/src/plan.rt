@@ -42,12 +42,12 @@ fn given_or(given: Option<u64>, other: u64, most: u64) -> u64
 impl SwitchPlan {
     ghost use Rattle.std.specs.Prelude.{◌≤◌, ◌<◌, length};
     ghost use Rattle.switch_args.specs.Readings.{given_of_settings};
-    ghost use Rattle.switch_args.specs.LawfulSettings.{IsLawful};
+    ghost use Rattle.switch_args.specs.ValidSettings.{IsValid};
     ghost use Rattle.switch_top.specs.SwitchPlans.{IsPlanOf};
 
     /// The plan of settings: where they do not say it, the row is played once, over rings of the program's own size.
     pub(crate) fn of(settings: SwitchSettings) -> SwitchPlan
-        requires { IsLawful (given_of_settings settings) }
+        requires { IsValid (given_of_settings settings) }
         ensures plan { IsPlanOf (given_of_settings settings) result }
         ensures some { 0 < length result.inputs.items }
         ensures few { length result.inputs.items ≤ 32 }

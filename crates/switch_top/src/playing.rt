@@ -19,7 +19,7 @@ use crate::status::SwitchStatus;
 use crate::stepping::{AllPlayed, Switched, Switching, play_all};
 use crate::switching::{NextPlay, open_next};
 use chain_core::{CorePlan, InputEnd, StageSet};
-use play_run::{AheadPlay, NoPlugin, OpenPlay, PlayCut, PlayEnd};
+use chain_plays::{AheadPlay, NoPlugin, OpenPlay, PlayCut, PlayEnd};
 use stage_run::OutputPart;
 use std::alloc::{AllocError, Global};
 use std::marker::Sync;

@@ -4,7 +4,7 @@ ghost use Rattle.switch_top.specs.SwitchEnds.{status_of, when_late};
 ghost use Rattle.switch_top.specs.SwitchExit.{exit_number};
 
 use chain_core::InputEnd;
-use play_run::PlayEnd;
+use chain_plays::PlayEnd;
 
 /// How a call of `tsswitch` ended.
 #[derive(Debug, Clone, Copy, PartialEq, Eq)]

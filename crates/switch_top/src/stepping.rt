@@ -2,21 +2,21 @@
 ghost use Rattle.std.specs.Prelude.{◌≡◌, ◌+◌, ◌<◌, ◌≤◌, ◌^◌, ◌*◌, ℕ, suc, length, List};
 ghost use Rattle.std.specs.String.{string_bytes};
 ghost use Rattle.chain_core.specs.declared.core_plan.CorePlan.{CorePlan};
-ghost use Rattle.chain_core.specs.CoreNumbers.{IsLawfulPlan};
+ghost use Rattle.chain_core.specs.CoreNumbers.{IsValidPlan};
 ghost use Rattle.stage_run.specs.declared.output_part.OutputPart.{OutputPart};
 ghost use Rattle.ts_outside.specs.Desk.{DeskView};
 ghost use Rattle.switch_top.specs.PlayNames.{PlayName, plays_left};
 ghost use Rattle.switch_top.specs.Nexts.{kind_of, CanPlay};
 ghost use Rattle.switch_top.specs.declared.plays_left.PlaysLeft.{PlaysLeft};
 ghost use Rattle.switch_top.specs.SoFar.{SoFar, WasPlayed, IsPresent, IsReady, IsCounted, TakesNext, Steps, AreAllPlayed};
-ghost use Rattle.play_run.specs.declared.played.PlayEnd.TheVariants.{Input};
+ghost use Rattle.chain_plays.specs.declared.played.PlayEnd.TheVariants.{Input};
 ghost use Rattle.chain_model.specs.declared.input_end.InputEnd.TheVariants.{End};
 
 use crate::lines::push_line;
 use crate::plays_left::PlaysLeft;
 use crate::switching::{NextPlay, abandon_next, open_next, play_ahead};
 use chain_core::{CorePlan, InputEnd};
-use play_run::{AheadPlay, NoPlugin, OpenPlay, PlayCut, PlayEnd, PlayedOut};
+use chain_plays::{AheadPlay, NoPlugin, OpenPlay, PlayCut, PlayEnd, PlayedOut};
 use plugin_trait::Plugin;
 use stage_run::OutputPart;
 use std::alloc::{AllocError, Global};
@@ -347,7 +347,7 @@ pub(crate) fn step<R: Threads + Wait + Sync, D: Desk, G: Gate>(
     inputs: &[NameText],
     state: Switching<AheadPlay<D::In, D::Out, NoPlugin>, D::Out>,
 ) -> Flow<AheadPlay<D::In, D::Out, NoPlugin>, D::Out>
-    requires lawful { IsLawfulPlan core.now }
+    requires valid { IsValidPlan core.now }
     requires plugins { core.now.plugins ≡ 0 }
     requires some { 0 < length inputs.now }
     requires few { length inputs.now < 2 ^ 62 }
@@ -408,7 +408,7 @@ pub(crate) fn play_all<R: Threads + Wait + Sync, D: Desk, G: Gate>(
     inputs: &[NameText],
     mut state: Switching<AheadPlay<D::In, D::Out, NoPlugin>, D::Out>,
 ) -> AllPlayed<D::Out>
-    requires lawful { IsLawfulPlan core.now }
+    requires valid { IsValidPlan core.now }
     requires plugins { core.now.plugins ≡ 0 }
     requires some { 0 < length inputs.now }
     requires few { length inputs.now < 2 ^ 62 }

@@ -1,17 +1,17 @@
 //! The play after the present one.
 ghost use Rattle.std.specs.Prelude.{◌≡◌, ◌+◌, ◌<◌, ◌≤◌, ◌^◌, ℕ, suc, length, List, IfOk, OnErr, [], IsOk};
 ghost use Rattle.chain_core.specs.declared.core_plan.CorePlan.{CorePlan};
-ghost use Rattle.chain_core.specs.CoreNumbers.{IsLawfulPlan};
+ghost use Rattle.chain_core.specs.CoreNumbers.{IsValidPlan};
 ghost use Rattle.stage_run.specs.Seeing.{seeing};
 ghost use Rattle.ts_outside.specs.Desk.{DeskView, content, input_closed};
 ghost use Rattle.ts_outside.specs.Source.{own_bytes};
-ghost use Rattle.play_run.specs.Plays.{IsAhead};
-ghost use Rattle.play_run.specs.Played.{HasPlayedOut};
+ghost use Rattle.chain_plays.specs.Plays.{IsAhead};
+ghost use Rattle.chain_plays.specs.Played.{HasPlayedOut};
 ghost use Rattle.switch_top.specs.Nexts.{kind_of, OpensNext, WantsNext, IsOpenPlay, CanPlay, SameNext, LeavesNext};
 
 use crate::plays_left::PlaysLeft;
 use chain_core::CorePlan;
-use play_run::{AheadPlay, NoPlugin, OpenPlay, PlayedOut, play_alone, play_with_next};
+use chain_plays::{AheadPlay, NoPlugin, OpenPlay, PlayedOut, play_alone, play_with_next};
 use plugin_trait::Plugin;
 use stage_run::OutputPart;
 use std::alloc::{AllocError, Global};
@@ -38,7 +38,7 @@ fn seat_source<D: Desk, A: OpenPlay<D::In>>(
     input: usize,
     source: D::In,
 ) -> Result<NextPlay<A>, AllocError>
-    requires lawful { IsLawfulPlan core.now }
+    requires valid { IsValidPlan core.now }
     requires plugins { core.now.plugins ≡ 0 }
     ensures opened { (old : DeskView) (name : List ℕ)
         → D.In.seen source ≡ record { left = content old name; faults = 0; origin = own_bytes }
@@ -63,7 +63,7 @@ pub(crate) fn open_next<D: Desk, A: OpenPlay<D::In>>(
     inputs: &[NameText],
     left: &mut PlaysLeft,
 ) -> Result<NextPlay<A>, AllocError>
-    requires lawful { IsLawfulPlan core.now }
+    requires valid { IsValidPlan core.now }
     requires plugins { core.now.plugins ≡ 0 }
     requires some { 0 < length inputs.now }
     requires few { length inputs.now < 2 ^ 62 }
@@ -94,10 +94,10 @@ pub(crate) fn play_ahead<R: Threads + Wait + Sync, S: Source + Send, K: Sink + S
     next: &mut NextPlay<AheadPlay<S, K, NoPlugin>>,
 ) -> PlayedOut<S, K>
     requires now { (plan : CorePlan) × (source : S) × IsAhead (seeing S.seen K.seen ⟦<NoPlugin as Plugin>⟧.rule
-        ⟦<NoPlugin as Plugin>⟧.stands_for ⟦<NoPlugin as Plugin>⟧.steady) plan source now }
+        ⟦<NoPlugin as Plugin>⟧.stands_for ⟦<NoPlugin as Plugin>⟧.preallocated) plan source now }
     requires next { CanPlay (kind_of S.seen K.seen ⟦<AheadPlay<S, K, NoPlugin> as OpenPlay<S>>⟧.is_open) next.old }
     ensures played { (plan : CorePlan) (source : S) → IsAhead (seeing S.seen K.seen ⟦<NoPlugin as Plugin>⟧.rule
-        ⟦<NoPlugin as Plugin>⟧.stands_for ⟦<NoPlugin as Plugin>⟧.steady) plan source now
+        ⟦<NoPlugin as Plugin>⟧.stands_for ⟦<NoPlugin as Plugin>⟧.preallocated) plan source now
         → HasPlayedOut S.seen K.seen plan.buffer source output result }
     ensures next { SameNext (kind_of S.seen K.seen ⟦<AheadPlay<S, K, NoPlugin> as OpenPlay<S>>⟧.is_open) next.old next.new }
 {

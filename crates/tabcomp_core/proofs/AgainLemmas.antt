@@ -18,8 +18,8 @@ use Rattle.ts_jtree.specs.Attributes.{read_attributes}
 use Rattle.ts_jtree.specs.Elements.{keys_known, name_of, nodes_key, nodes_of, read_element}
 use Rattle.ts_jtree.specs.Shown.{are_within, element_members, rows_show}
 use Rattle.ts_json_tables.specs.HeldTables.{TableValue}
-use Rattle.ts_json_tables.specs.LawfulTables.{IsOfBytes, IsTable}
-use Rattle.ts_section.specs.LawfulSection.{IsSection}
+use Rattle.ts_json_tables.specs.ValidTables.{IsOfBytes, IsTable}
+use Rattle.ts_section.specs.ValidSection.{IsSection}
 use Rattle.ts_section.specs.SectionRun.{IsTableRun}
 use Rattle.ts_json_tables.specs.RunTables.{table_of_run}
 use Rattle.ts_json_tables.specs.TableElements.{table_shown}
@@ -71,11 +71,11 @@ text_again text ms runs utf8 is shows again =
 pub run_again : ((t : TableValue) → IsTable t → IsOfBytes t → table_read (table_shown t) ≡ Ok t)
     → ((run : List (List ℕ)) → All (λ s. IsSection s) run → IsOfBytes (table_of_run run))
     → (run : List (List ℕ)) (t : TableValue) → t ≡ table_of_run run → IsTable t → All (λ s. IsSection s) run → IsReadAgain run
-run_again shown bytes run t same lawful sections = shown (table_of_run run) (subst IsTable same lawful) (bytes run sections)
+run_again shown bytes run t same valid sections = shown (table_of_run run) (subst IsTable same valid) (bytes run sections)
 
 pub run_kept : ((run : List (List ℕ)) → IsTableRun run → All (λ s. IsSection s) run → IsTable (table_of_run run) → IsKept run)
     → (run : List (List ℕ)) (t : TableValue) → t ≡ table_of_run run → IsTable t → IsTableRun run → All (λ s. IsSection s) run → IsKept run
-run_kept law run t same lawful whole sections = law run whole sections (subst IsTable same lawful)
+run_kept law run t same valid whole sections = law run whole sections (subst IsTable same valid)
 
 -- ---- answers that rest on others
 

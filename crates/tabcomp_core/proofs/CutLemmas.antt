@@ -8,7 +8,7 @@ use Rattle.ts_section.specs.FirstBroken.{first_broken}
 use Rattle.ts_section.specs.SectionFields.{front_of, section_length_of}
 use Rattle.tabcomp_core.specs.declared.fault.DecompileFault.{DecompileFault}
 use Rattle.tabcomp_core.specs.declared.fault.DecompileFault.TheVariants as faults
-use Rattle.tabcomp_core.specs.Cutting.{CutsAt, CutsFront, FaultAt, before_more, if_lawful, sections_from, sections_in}
+use Rattle.tabcomp_core.specs.Cutting.{CutsAt, CutsFront, FaultAt, before_more, if_valid, sections_from, sections_in}
 
 -- what is cut, after what was cut before
 abbrev pub with_front : List (List ℕ) → Result (List (List ℕ)) FaultAt → Result (List (List ℕ)) FaultAt
@@ -30,7 +30,7 @@ turns (suc most) (suc other) offset (b ∷ bs) enough also =
     let n = length (front_of (b ∷ bs)) in
     let rest = drop n (b ∷ bs) in
     let size : length rest ≤ length bs = omega (arith, length-drop n (b ∷ bs), front_some b bs) in
-    ap (if_lawful (first_broken (front_of (b ∷ bs))) offset (front_of (b ∷ bs)))
+    ap (if_valid (first_broken (front_of (b ∷ bs))) offset (front_of (b ∷ bs)))
     (turns most other (offset + n) rest (omega (arith, enough, size)) (omega (arith, also, size)))
 
 front_more : (front : List (List ℕ)) (s : List ℕ) (r : Result (List (List ℕ)) FaultAt)
@@ -61,14 +61,14 @@ pub cut_goes_on : (bytes : List ℕ) (offset : ℕ) (s : List ℕ) (front : List
     → offset < length bytes → first_broken (front_of (drop offset bytes)) ≡ None → s ≡ front_of (drop offset bytes)
     → with_front front (sections_from (length (drop offset bytes)) offset (drop offset bytes)) ≡ whole
     → with_front (front ++ s ∷ []) (sections_from (length (drop (offset + length s) bytes)) (offset + length s) (drop (offset + length s) bytes)) ≡ whole
-cut_goes_on bytes offset s front whole inside lawful same so_far =
+cut_goes_on bytes offset s front whole inside valid same so_far =
     let l = drop offset bytes in
     let some : 0 < length l = omega (arith, length-drop offset bytes, inside) in
     let at : drop (offset + length s) bytes ≡ drop (length (front_of l)) l =
     ap (λ n. drop (offset + n) bytes) (ap length same) ∙ sym (drop-drop (length (front_of l)) offset bytes) in
     ap (λ x. with_front (front ++ s ∷ []) (sections_from (length x) (offset + length s) x)) at
     ∙ ap (λ x. with_front (front ++ x ∷ []) (sections_from (length (drop (length (front_of l)) l)) (offset + length x) (drop (length (front_of l)) l))) same
-    ∙ sym (one_more l offset front some lawful) ∙ so_far
+    ∙ sym (one_more l offset front some valid) ∙ so_far
 
 pub cut_stops : (bytes : List ℕ) (offset : ℕ) (front : List (List ℕ)) (fault : SectionFault) (whole : Result (List (List ℕ)) FaultAt)
     → offset < length bytes → first_broken (front_of (drop offset bytes)) ≡ Some fault
@@ -111,7 +111,7 @@ front_joined l =
     ap (λ n. take m l ++ drop n l) (length-take m l) ∙ ap (λ x. take m l ++ x) (drop_min m l) ∙ take-append-drop m l
 
 joined_if : (o : Option SectionFault) (offset : ℕ) (s rest l : List ℕ) (r : Result (List (List ℕ)) FaultAt) (ss : List (List ℕ))
-    → s ++ rest ≡ l → ((more : List (List ℕ)) → r ≡ Ok more → concat more ≡ rest) → if_lawful o offset s r ≡ Ok ss → concat ss ≡ l
+    → s ++ rest ≡ l → ((more : List (List ℕ)) → r ≡ Ok more → concat more ≡ rest) → if_valid o offset s r ≡ Ok ss → concat ss ≡ l
 joined_if (Some fault) offset s rest l r ss same behind is = cc is
 joined_if None offset s rest l (Ok more) ss same behind is =
     let all : s ∷ more ≡ ss = cc is in

@@ -67,9 +67,9 @@ member_is first s place told =
 abbrev pub MembersFrom : List ℕ → ℕ → List (List ℕ) → ℕ → Type 0
 MembersFrom first place xs n = (k : ℕ) → k < n → IsMember first (place + k) (get_or xs k [])
 
-pub members_behind : (first : List ℕ) (place : ℕ) (x : List ℕ) (xs : List (List ℕ)) (n : ℕ) → MembersFrom first place (x ∷ xs) (suc n)
+pub members_after : (first : List ℕ) (place : ℕ) (x : List ℕ) (xs : List (List ℕ)) (n : ℕ) → MembersFrom first place (x ∷ xs) (suc n)
     → MembersFrom first (place + 1) xs n
-members_behind first place x xs n members k inside =
+members_after first place x xs n members k inside =
     subst (λ at. IsMember first at (get_or xs k [])) (omega arith) (members (suc k) (omega (arith, inside)))
 
 pub members_here : (first : List ℕ) (place : ℕ) (x : List ℕ) (xs : List (List ℕ)) (n : ℕ) → MembersFrom first place (x ∷ xs) (suc n)
@@ -85,7 +85,7 @@ count_all first place [] rest members =
     let at : place ≡ place + 0 = omega arith in
     omega (arith, ap (λ n. members_from first n rest) at)
 count_all first place (x ∷ xs) rest members =
-    let more = count_all first (place + 1) xs rest (members_behind first place x xs (length xs) members) in
+    let more = count_all first (place + 1) xs rest (members_after first place x xs (length xs) members) in
     let at : members_from first (place + 1 + length xs) rest ≡ members_from first (place + suc (length xs)) rest =
     ap (λ n. members_from first n rest) (omega arith) in
     cond-true (is_member first place x) (members_from first (place + 1) (xs ++ rest) + 1) 0 (members_here first place x xs (length xs) members)
@@ -100,7 +100,7 @@ count_to first place (x ∷ xs) zero inside members other =
     cond-false (is_member first place x) (members_from first (place + 1) xs + 1) 0
     (false_from_ne_true (is_member first place x) (λ told. other (subst (λ at. IsMember first at x) (omega arith) (member_is first x place told))))
 count_to first place (x ∷ xs) (suc n) inside members other =
-    let more = count_to first (place + 1) xs n (omega (arith, inside)) (members_behind first place x xs n members)
+    let more = count_to first (place + 1) xs n (omega (arith, inside)) (members_after first place x xs n members)
     (λ m. other (subst (λ at. IsMember first at (get_or xs n [])) (omega arith) m)) in
     cond-true (is_member first place x) (members_from first (place + 1) xs + 1) 0 (members_here first place x xs n members)
     ∙ omega (arith, more)

@@ -1,7 +1,7 @@
 -- Worked rows: sections and their runs.
 use Rattle.std.proofs.Common.{◌≡◌, ℕ, List, [], ◌∷◌, refl}
 use Rattle.std.specs.Prelude.{Ok, Err}
-use Rattle.bit_rows.specs.BitRow.{bit_of, field}
+use Rattle.ts_bit_rows.specs.BitRow.{bit_of, field}
 use Rattle.tabcomp_core.specs.Dividing.{members_from, runs_from, runs_in}
 
 -- a section of this table_id, version byte, number and last number, up to its body

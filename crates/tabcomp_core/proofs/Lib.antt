@@ -13,3 +13,5 @@ mod ReadWithin
 mod ChildrenTexts
 mod RootText
 mod AgainLemmas
+pub mod Rows
+pub mod FaultLemmas

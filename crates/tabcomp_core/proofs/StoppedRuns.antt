@@ -75,8 +75,8 @@ first_stops s ss few =
 
 -- ---- after whole runs
 
-behind_run : (run rest l : List (List ℕ)) (q : ℕ) → IsTableRun run → run ++ rest ≡ l → StopsAt rest q → StopsAt l (length run + q)
-behind_run run rest l q whole joins stops = record {
+after_run : (run rest l : List (List ℕ)) (q : ℕ) → IsTableRun run → run ++ rest ≡ l → StopsAt rest q → StopsAt l (length run + q)
+after_run run rest l q whole joins stops = record {
   runs = run ∷ stops.runs;
   begun = stops.begun;
   rest = stops.rest;
@@ -108,7 +108,7 @@ runs_stop (suc most) place p (s ∷ ss) enough is =
     by_rest run n (Ok more) rest whole joins size behind told = cc told
     by_rest run n (Err at) rest whole joins size behind told =
         let found = behind at refl in
-        (length run + found.0, omega (arith, same_place at p told, found.1, size), behind_run run rest (s ∷ ss) found.0 whole joins found.2)
+        (length run + found.0, omega (arith, same_place at p told, found.1, size), after_run run rest (s ∷ ss) found.0 whole joins found.2)
 
     by_size : ((at q : ℕ) (l : List (List ℕ)) → length l ≤ most → runs_from most at l ≡ Err q → StopsFrom at l q) → (n : ℕ) → begun_size (s ∷ ss) ≡ n
         → (nat_eq (begun_size (s ∷ ss)) (whole_size s) ≡ true) ⊎ (nat_eq (begun_size (s ∷ ss)) (whole_size s) ≡ false) → StopsFrom place (s ∷ ss) p

@@ -5,7 +5,7 @@ use Rattle.std.specs.List.{concat}
 use Rattle.std.proofs.lemmas.List.Elements.{All-append, All-cons, All-head, All-nil, All-tail}
 use Rattle.std.proofs.lemmas.List.Folds.{concat-append}
 use Rattle.serde_json.specs.Data.{Data, Items, no_items, item}
-use Rattle.ts_section.specs.LawfulSection.{IsSection}
+use Rattle.ts_section.specs.ValidSection.{IsSection}
 use Rattle.ts_section.specs.SectionRun.{IsTableRun}
 use Rattle.ts_fields.specs.Layout.{Held}
 use Rattle.ts_jtree.specs.Elements.{read_element}
@@ -13,7 +13,7 @@ use Rattle.ts_jtree.specs.Faults.{Reading, at_child, ◌>>=◌}
 use Rattle.ts_table_rows.specs.declared.fault.TableRefusal.{TableRefusal}
 use Rattle.ts_table_rows.specs.Filling.{join}
 use Rattle.ts_json_tables.specs.HeldTables.{TableValue}
-use Rattle.ts_json_tables.specs.LawfulTables.{IsOfBytes, IsTable}
+use Rattle.ts_json_tables.specs.ValidTables.{IsOfBytes, IsTable}
 use Rattle.ts_json_tables.specs.RunTables.{sections_of_table, table_of_run}
 use Rattle.ts_json_tables.specs.TableReading.{read_each, table_read}
 use Rattle.ts_json_tables.specs.ToldTables.{IsKept, TellsTable, told_again}
@@ -30,13 +30,13 @@ record AreTold (told : List TableValue) (bytes : List ℕ) : Type 0 where
   pub runs : List (List (List ℕ))
   pub joined : concat (join runs) ≡ bytes
   pub whole : All IsTableRun runs
-  pub lawful : All (λ s. IsSection s) (join runs)
+  pub valid : All (λ s. IsSection s) (join runs)
   pub tables : map table_of_run runs ≡ told
 
 told_text : (told : List TableValue) (bytes : List ℕ) → AreTold told bytes → decompiled bytes ≡ Ok (tables_text told)
 told_text told bytes are =
     let ss : List (List ℕ) = join are.runs in
-    ap decompiled (sym are.joined) ∙ ap (λ r. text_or_fault (of_sections r)) (sections_cut ss are.lawful)
+    ap decompiled (sym are.joined) ∙ ap (λ r. text_or_fault (of_sections r)) (sections_cut ss are.valid)
     ∙ ap (λ r. text_or_fault (of_runs ss r)) (only_runs ss are.runs (record { joined = refl; whole = are.whole }))
     ∙ ap (λ ts. Ok (tables_text ts)) are.tables
 
@@ -59,7 +59,7 @@ one_told place t told bytes (Ok ss) (Ok rest) tells behind is =
       runs = ss ∷ are.runs;
       joined = concat-append ss (join are.runs) ∙ ap (λ l. concat ss ++ l) are.joined ∙ same_bytes (concat ss ++ rest) bytes is;
       whole = All-cons IsTableRun ss are.runs one.whole are.whole;
-      lawful = All-append (λ s. IsSection s) ss (join are.runs) one.lawful are.lawful;
+      valid = All-append (λ s. IsSection s) ss (join are.runs) one.valid are.valid;
       tables = ap (λ x. x ∷ map table_of_run are.runs) one.table ∙ ap (λ l. t ∷ l) are.tables;
     }
 
@@ -68,7 +68,7 @@ tables_told : (again : TableValue → TableValue) (place : ℕ) (ts : List Table
 unfolding tables_bytes
 tables_told again place [] bytes tell is =
     subst (AreTold []) (same_bytes [] bytes is)
-    (record { runs = []; joined = refl; whole = All-nil IsTableRun; lawful = All-nil (λ s. IsSection s); tables = refl })
+    (record { runs = []; joined = refl; whole = All-nil IsTableRun; valid = All-nil (λ s. IsSection s); tables = refl })
 tables_told again place (t ∷ ts) bytes tell is =
     one_told place (again t) (map again ts) bytes (sections_of_table t) (tables_bytes (place + 1) ts) (All-head (Tells again) t ts tell)
     (λ rest. tables_told again (place + 1) ts rest (All-tail (Tells again) t ts tell)) is
@@ -76,16 +76,16 @@ tables_told again place (t ∷ ts) bytes tell is =
 -- ---- the tables of a text
 
 -- what the layer below ensures of tables that are read, and of the sections of valid tables
-abbrev pub ReadLawful : Type 0
-ReadLawful = (value : Data) (t : TableValue) → table_read value ≡ Ok t → IsTable t × IsOfBytes t
+abbrev pub ReadValid : Type 0
+ReadValid = (value : Data) (t : TableValue) → table_read value ≡ Ok t → IsTable t × IsOfBytes t
 
-abbrev pub LawfulTell : Type 0
-LawfulTell = (t : TableValue) (ss : List (List ℕ)) → IsTable t → IsOfBytes t → sections_of_table t ≡ Ok ss → TellsTable (told_again t) ss
+abbrev pub ValidTell : Type 0
+ValidTell = (t : TableValue) (ss : List (List ℕ)) → IsTable t → IsOfBytes t → sections_of_table t ≡ Ok ss → TellsTable (told_again t) ss
 
 same_tables : (x y : List TableValue) → ◌≡◌ {A = Reading (List TableValue)} (Ok x) (Ok y) → x ≡ y
 same_tables x y is = cc is
 
-each_tells : ReadLawful → LawfulTell → (place : ℕ) (nodes : Items) (ts : List TableValue) → read_each table_read place nodes ≡ Ok ts → All (Tells told_again) ts
+each_tells : ReadValid → ValidTell → (place : ℕ) (nodes : Items) (ts : List TableValue) → read_each table_read place nodes ≡ Ok ts → All (Tells told_again) ts
 unfolding read_each
 each_tells law tell place no_items ts is = subst (All (Tells told_again)) (same_tables [] ts is) (All-nil (Tells told_again))
 each_tells law tell place (item value more) ts is = by_first (table_read value) (read_each table_read (place + 1) more) (law value) (each_tells law tell (place + 1) more) is
@@ -96,10 +96,10 @@ each_tells law tell place (item value more) ts is = by_first (table_read value) 
     by_first (Err fault) others here behind is = cc is
     by_first (Ok t) (Err fault) here behind is = cc is
     by_first (Ok t) (Ok xs) here behind is =
-        let lawful = here t refl in
-        subst (All (Tells told_again)) (same_tables (t ∷ xs) ts is) (All-cons (Tells told_again) t xs (λ ss. tell t ss lawful.0 lawful.1) (behind xs refl))
+        let valid = here t refl in
+        subst (All (Tells told_again)) (same_tables (t ∷ xs) ts is) (All-cons (Tells told_again) t xs (λ ss. tell t ss valid.0 valid.1) (behind xs refl))
 
-root_tells : ReadLawful → LawfulTell → (value : Data) (ts : List TableValue) → tables_read value ≡ Ok ts → All (Tells told_again) ts
+root_tells : ReadValid → ValidTell → (value : Data) (ts : List TableValue) → tables_read value ≡ Ok ts → All (Tells told_again) ts
 unfolding tables_read
 root_tells law tell value ts is = by_root (read_element root_name [] value) is
   where
@@ -107,7 +107,7 @@ root_tells law tell value ts is = by_root (read_element root_name [] value) is
     by_root (Err fault) is = cc is
     by_root (Ok r) is = each_tells law tell 0 r.1 ts is
 
-pub text_told_again : ReadLawful → LawfulTell → (text sections : List ℕ) → compiled text ≡ Ok sections → IsToldAgain text sections
+pub text_told_again : ReadValid → ValidTell → (text sections : List ℕ) → compiled text ≡ Ok sections → IsToldAgain text sections
 text_told_again law tell text sections is = by_value (json_of text) refl is
   where
     by_tables : (value : Data) (read : Reading (List TableValue)) → json_of text ≡ Some value → tables_read value ≡ read → of_tables read ≡ Ok sections

@@ -8,7 +8,7 @@ use Rattle.ts_section.specs.SectionFields.{last_number_of}
 use Rattle.ts_section.specs.SectionRun.{stands_alone, IsMember, IsTableRun}
 use Rattle.ts_table_rows.specs.Filling.{join}
 use Rattle.tabcomp_core.specs.Dividing.{AreRuns, before_runs, begun_size, is_member, members_from, runs_from, runs_in, whole_size}
-use Rattle.tabcomp_core.proofs.DivideLemmas.{MembersFrom, member_is, members_here, members_behind, one_run, whole_some}
+use Rattle.tabcomp_core.proofs.DivideLemmas.{MembersFrom, member_is, members_here, members_after, one_run, whole_some}
 
 -- ---- whole runs are found
 
@@ -56,7 +56,7 @@ unfolding members_from
 counted_all first place xs zero within members = omega arith
 counted_all first place [] (suc n) within members = absurd (omega (arith, within))
 counted_all first place (x ∷ xs) (suc n) within members =
-    let more = counted_all first (place + 1) xs n (omega (arith, within)) (members_behind first place x xs n members) in
+    let more = counted_all first (place + 1) xs n (omega (arith, within)) (members_after first place x xs n members) in
     omega (arith, more, cond-true (is_member first place x) (members_from first (place + 1) xs + 1) 0 (members_here first place x xs n members))
 
 pub begun_within : (s : List ℕ) (ss : List (List ℕ)) → begun_size (s ∷ ss) ≤ length (s ∷ ss)

@@ -19,16 +19,16 @@ before_more s (Ok more) = Ok (s ∷ more)
 before_more s (Err fault) = Err fault
 
 -- the fault of a section at this offset, or the section before those after it
-abbrev pub if_lawful : Option SectionFault → ℕ → List ℕ → Result (List (List ℕ)) FaultAt → Result (List (List ℕ)) FaultAt
-if_lawful (Some fault) offset s more = Err (record { offset = offset; fault = fault })
-if_lawful None offset s more = before_more s more
+abbrev pub if_valid : Option SectionFault → ℕ → List ℕ → Result (List (List ℕ)) FaultAt → Result (List (List ℕ)) FaultAt
+if_valid (Some fault) offset s more = Err (record { offset = offset; fault = fault })
+if_valid None offset s more = before_more s more
 
 -- the sections in the bytes, the first of which has this offset; `most` is at least the number of bytes
 unfoldable pub sections_from : ℕ → ℕ → List ℕ → Result (List (List ℕ)) FaultAt
 sections_from most offset [] = Ok []
 sections_from zero offset (b ∷ bs) = Ok []
 sections_from (suc most) offset (b ∷ bs) =
-    if_lawful (first_broken (front_of (b ∷ bs))) offset (front_of (b ∷ bs))
+    if_valid (first_broken (front_of (b ∷ bs))) offset (front_of (b ∷ bs))
     (sections_from most (offset + length (front_of (b ∷ bs))) (drop (length (front_of (b ∷ bs))) (b ∷ bs)))
 
 -- the sections in the bytes, or the first that is invalid

@@ -7,3 +7,4 @@ pub mod ElementTexts
 pub mod Faithful
 pub mod TableRuns
 pub mod ToldAgain
+pub mod TableFiles

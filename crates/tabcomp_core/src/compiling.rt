@@ -7,7 +7,7 @@ ghost use Rattle.std.specs.List.{concat};
 ghost use Rattle.serde_json.specs.View.{view, items_view};
 ghost use Rattle.ts_jtree.specs.Faults.{Answers, at_child};
 ghost use Rattle.ts_json_tables.specs.HeldTables.{table_value};
-ghost use Rattle.ts_json_tables.specs.LawfulTables.{IsTable};
+ghost use Rattle.ts_json_tables.specs.ValidTables.{IsTable};
 ghost use Rattle.ts_json_tables.specs.RunTables.{sections_of_table};
 ghost use Rattle.ts_json_tables.specs.TableReading.{read_each, table_read};
 ghost use Rattle.tabcomp_core.specs.Compiling;
@@ -57,7 +57,7 @@ fn read_value(alloc: Global, text: &[u8]) -> Result<Value, CompileFault>
 #[tactic(auto, unfolding(crate::specs::Compiling::tables_read))]
 fn read_tables(alloc: Global, value: &Value) -> Result<Vec<Table>, ReadRefusal>
     ensures read { Answers (λ v. map table_value v.items) result (Compiling.tables_read (view value.now)) }
-    ensures lawful { IfOk result (λ v. All (λ t. IsTable (table_value t)) v.items) }
+    ensures valid { IfOk result (λ v. All (λ t. IsTable (table_value t)) v.items) }
 {
     let (_, nodes) = read_element(alloc, "tsduck", &[], value)?;
     tables_of_json(alloc, nodes)

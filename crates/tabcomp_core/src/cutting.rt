@@ -4,7 +4,7 @@ ghost use Rattle.std.specs.Prelude.{◌≡◌, ◌<◌, length, Some, IfOk};
 ghost use Rattle.std.specs.List.{concat};
 ghost use Rattle.ts_section.specs.FirstBroken.{first_broken};
 ghost use Rattle.ts_section.specs.SectionFields.{front_of};
-ghost use Rattle.ts_section.specs.LawfulSection.{IsSection};
+ghost use Rattle.ts_section.specs.ValidSection.{IsSection};
 ghost use Rattle.tabcomp_core.specs.Cutting.{Cuts, CutsFront, sections_in};
 
 use crate::fault::DecompileFault;

@@ -1,7 +1,7 @@
 //! Dividing sections into the runs of whole tables.
 
 ghost use Rattle.std.specs.Prelude.{◌≡◌, ◌+◌, ◌++◌, ◌∷◌, [], ◌^◌, ◌<◌, ◌≤◌, length, List, ℕ, Ok, Err, IfOk, IfErr};
-ghost use Rattle.ts_section.specs.LawfulSection.{IsSection};
+ghost use Rattle.ts_section.specs.ValidSection.{IsSection};
 ghost use Rattle.ts_section.specs.SectionRun.{IsTableRun, IsRunFault};
 ghost use Rattle.tabcomp_core.specs.declared.dividing.NoRuns.TheVariants.{NoMemory};
 ghost use Rattle.tabcomp_core.specs.Dividing;

@@ -28,14 +28,14 @@ job_with task (input ∷ (output ∷ [])) = Ok (record { task = task; input = in
 job_with task (input ∷ (output ∷ (third ∷ more))) = Err 3
 
 -- the task with the names after its word, or the refusal of that word
-abbrev pub job_behind : Option Task → List (List ℕ) → Result Job ℕ
-job_behind None names = Err 0
-job_behind (Some task) names = job_with task names
+abbrev pub job_after : Option Task → List (List ℕ) → Result Job ℕ
+job_after None names = Err 0
+job_after (Some task) names = job_with task names
 
 -- what the words ask for, or the number, from 0, of the first that breaks the form; 0 where there is no word
 abbrev pub job_of : List (List ℕ) → Result Job ℕ
 job_of [] = Err 0
-job_of (word ∷ names) = job_behind (task_of word) names
+job_of (word ∷ names) = job_after (task_of word) names
 
 -- what a job in the code asks for
 abbrev pub meant : held.Job → Job

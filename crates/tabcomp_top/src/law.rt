@@ -20,7 +20,7 @@ use tabcomp_core::compiled_is_decompiled;
 pub fn causes()
     ensures words { (words : List (List ℕ)) (word : ℕ) (old new : DeskView) (status : TabStatus)
         → job_of words ≡ Err word → CallsTab words old new status → status ≡ Words word }
-    ensures lawful { (words : List (List ℕ)) (job : Job) (old new : DeskView) (status : TabStatus)
+    ensures valid { (words : List (List ℕ)) (job : Job) (old new : DeskView) (status : TabStatus)
         → job_of words ≡ Ok job → CallsTab words old new status → HasCauses job old new status }
     ensures canonical { (text : List ℕ) (fault : DecompileFault)
         → converted Canonical text ≢ Err (Decompile fault) }

@@ -4,10 +4,10 @@ use Rattle.std.proofs.Math.Nat.{pow-le-pow_right}
 use Rattle.std.proofs.lemmas.Nat.{and_mask}
 use Rattle.std.specs.Prelude.{bit_and}
 use Rattle.std.specs.Prelude.{Result, Ok, Err, OnOk}
-use Rattle.bit_rows.specs.BitRow.{field, SetsField}
+use Rattle.ts_bit_rows.specs.BitRow.{field, SetsField}
 use Rattle.ts_bits.specs.declared.row.ShortInput.{ShortInput}
 use Rattle.ts_bits.specs.Decimal.{packed, decimal, AreDigits, half_byte, SetsDecimal}
-use Rattle.bit_rows.proofs.Fields.{field-split, field-below, field-part}
+use Rattle.ts_bit_rows.proofs.Fields.{field-split, field-below, field-part}
 
 pub packed-zero : (value : ℕ) → packed 0 value ≡ 0
 unfolding packed

@@ -114,13 +114,13 @@ written_from (suc most) offset (d ∷ ds) long =
 pub written_again : (ds : List TaggedBody) → descriptors_of (loop_bytes ds) ≡ Ok ds
 written_again ds = let least : length (loop_bytes ds) ≤ length (loop_bytes ds) = omega arith in written_from (length (loop_bytes ds)) 0 ds least
 
-behind_ok : (d : TaggedBody) (read : Result (List TaggedBody) ℕ) (ds : List TaggedBody) → behind_first d read ≡ Ok ds → (more : List TaggedBody) × (read ≡ Ok more) × (ds ≡ d ∷ more)
-behind_ok d (Ok more) ds is = (more, refl, let e : ds ≡ d ∷ more = cc in e)
-behind_ok d (Err offset) ds is = cc
+after_ok : (d : TaggedBody) (read : Result (List TaggedBody) ℕ) (ds : List TaggedBody) → behind_first d read ≡ Ok ds → (more : List TaggedBody) × (read ≡ Ok more) × (ds ≡ d ∷ more)
+after_ok d (Ok more) ds is = (more, refl, let e : ds ≡ d ∷ more = cc in e)
+after_ok d (Err offset) ds is = cc
 
-behind_err : (d : TaggedBody) (read : Result (List TaggedBody) ℕ) (offset : ℕ) → behind_first d read ≡ Err offset → read ≡ Err offset
-behind_err d (Ok more) offset is = cc
-behind_err d (Err place) offset is = is
+after_err : (d : TaggedBody) (read : Result (List TaggedBody) ℕ) (offset : ℕ) → behind_first d read ≡ Err offset → read ≡ Err offset
+after_err d (Ok more) offset is = cc
+after_err d (Err place) offset is = is
 
 -- what is read was written so
 whole_from : (most offset : ℕ) (row : List ℕ) (ds : List TaggedBody) → descriptors_from most offset row ≡ Ok ds → loop_bytes ds ≡ row
@@ -132,7 +132,7 @@ whole_from (suc most) offset (tag ∷ size ∷ rest) ds is =
     if_by (λ r. r ≡ Ok ds → loop_bytes ds ≡ tag ∷ size ∷ rest) (nat_lt (length rest) size) (nat_lt (length rest) size) (Err offset) _ refl
     (λ cut e. cc)
     (λ fits e.
-    let parts = behind_ok (record { tag = tag; body = take size rest }) (descriptors_from most (offset + (2 + size)) (drop size rest)) ds e in
+    let parts = after_ok (record { tag = tag; body = take size rest }) (descriptors_from most (offset + (2 + size)) (drop size rest)) ds e in
     let many : length (take size rest) ≡ size = length-take-le size rest (ltb-false (length rest) size fits) in
     ap loop_bytes parts.2
     ∙ rw many (ap (λ bs. tag ∷ size ∷ (take size rest ++ bs)) (whole_from most (offset + (2 + size)) (drop size rest) parts.0 parts.1)
@@ -158,7 +158,7 @@ cut_from (suc most) start offset (tag ∷ size ∷ rest) long is =
     (0, same, record { before = []; whole = refl; begins = omega arith; passes = omega arith }))
     (λ fits e.
     let inner = cut_from most (start + (2 + size)) offset (drop size rest) (omega (arith, length-drop size rest))
-    (behind_err (record { tag = tag; body = take size rest }) (descriptors_from most (start + (2 + size)) (drop size rest)) offset e) in
+    (after_err (record { tag = tag; body = take size rest }) (descriptors_from most (start + (2 + size)) (drop size rest)) offset e) in
     let many : length (take size rest) ≡ size = length-take-le size rest (ltb-false (length rest) size fits) in
     let cut = inner.2 in
     let gone : drop (size + inner.0) rest ≡ drop inner.0 (drop size rest) = sym (drop-drop inner.0 size rest) in (

@@ -3,8 +3,8 @@ use Rattle.std.proofs.Common.{◌≡◌, ℕ, ◌+◌, ◌-◌, ◌*◌, ◌/◌
 use Rattle.std.proofs.lemmas.List.{length-drop, length-take-le}
 use Rattle.std.specs.Prelude.{bit_and}
 use Rattle.std.proofs.lemmas.Nat.{and_mask, one_shl}
-use Rattle.bit_rows.specs.BitRow.{field}
-use Rattle.bit_rows.proofs.RowParts.{field-in_bytes}
+use Rattle.ts_bit_rows.specs.BitRow.{field}
+use Rattle.ts_bit_rows.proofs.RowParts.{field-in_bytes}
 
 -- the field that the code takes from a few bytes by a shift and a mask
 pub field-masked : (row : List ℕ) (at count size wide : ℕ) → wide ≡ field (take (at / 8 + size - at / 8) (drop (at / 8) row)) 0 (8 * length (take (at / 8 + size - at / 8) (drop (at / 8) row))) → at / 8 + size ≤ length row → at % 8 + count ≤ 8 * size → count ≤ 64 → bit_and (wide / 2 ^ (8 * size - at % 8 - count)) (1 * 2 ^ count % 2 ^ 128 - 1) ≡ field row at count

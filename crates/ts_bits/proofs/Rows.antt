@@ -1,6 +1,6 @@
 -- Worked rows: the definitions computed.
 use Rattle.std.proofs.Common.{◌≡◌, ◌∷◌, [], Ok, Err, refl}
-use Rattle.bit_rows.specs.BitRow.{bit_of, field}
+use Rattle.ts_bit_rows.specs.BitRow.{bit_of, field}
 use Rattle.ts_bits.specs.Decimal.{decimal, packed}
 use Rattle.ts_bits.specs.DescriptorLoop.{descriptors_from, descriptors_of}
 use Rattle.ts_bits.specs.TaggedBody.{loop_bytes}

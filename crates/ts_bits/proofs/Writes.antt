@@ -6,8 +6,8 @@ use Rattle.std.proofs.lemmas.List.{get_or-set_same, get_or-set_other, length-set
 use Rattle.std.proofs.lemmas.Nat.{div_below, one_shl, pow_pos, shr-shr}
 use Rattle.std.proofs.lemmas.Nat.Bits.{bit_at_or, bit_at-zero, bit_at-pow_same, bit_at-pow_other, bit_at_clear_same, bit_at_clear_other}
 use Rattle.std.specs.Int.{bit_at, w8}
-use Rattle.bit_rows.specs.BitRow.{bit_of, field, SetsField}
-use Rattle.bit_rows.proofs.Fields.{bit_of-in_byte, field-zero, field-suc, field-moved}
+use Rattle.ts_bit_rows.specs.BitRow.{bit_of, field, SetsField}
+use Rattle.ts_bit_rows.proofs.Fields.{bit_of-in_byte, field-zero, field-suc, field-moved}
 
 -- a byte whose bit at `shift` becomes `bit`
 abbrev with_bit : ℕ → ℕ → ℕ → ℕ

@@ -1,7 +1,7 @@
 -- Decimal digits of four bits each in a row of bytes.
 -- ETSI EN 300 468, 5.2.5 and 6.2.13: "4-bit Binary Coded Decimal".
 use Rattle.std.specs.Prelude.{◌≡◌, ℕ, ◌+◌, ◌*◌, ◌/◌, ◌%◌, ◌<◌, ◌≤◌, List, length, suc, zero}
-use Rattle.bit_rows.specs.BitRow.{bit_of, field}
+use Rattle.ts_bit_rows.specs.BitRow.{bit_of, field}
 use Rattle.ts_bits.specs.declared.decimal.BcdFault.{BcdFault}
 use Rattle.ts_bits.specs.declared.decimal.BcdFault.TheVariants.{Short, Digit}
 

@@ -1,7 +1,7 @@
 //! Decimal numbers of four bits a digit (BCD).
 
 ghost use Rattle.std.specs.Prelude.{◌≡◌, ◌+◌, ◌*◌, ◌%◌, ◌^◌, ◌<◌, ◌≤◌, ◌↔◌, length, IfOk, OnOk, OnErr, IfErr, IsOk};
-ghost use Rattle.bit_rows.specs.BitRow.{field};
+ghost use Rattle.ts_bit_rows.specs.BitRow.{field};
 ghost use Rattle.ts_bits.specs.Decimal.{decimal, AreDigits, IsBcdFault, SetsDecimal, packed};
 
 use crate::row::{ShortInput, bits, put_bits};

@@ -1,5 +1,5 @@
 //! Numbers of any width in bits, decimal digits and descriptors, read from and written to bytes.
-//! The layer above uses `bits` and `put_bits`, which read and set the fields of `bit_rows`.
+//! The layer above uses `bits` and `put_bits`, which read and set the fields of `ts_bit_rows`.
 #![tactic(auto)]
 
 mod decimal;

@@ -1,7 +1,7 @@
 //! Numbers of up to 64 bits at any place in bytes.
 
 ghost use Rattle.std.specs.Prelude.{◌≡◌, ◌+◌, ◌*◌, ◌^◌, ◌<◌, ◌≤◌, ◌↔◌, length, IfOk, OnOk, OnErr, IsOk, IsTrue};
-ghost use Rattle.bit_rows.specs.BitRow.{field, SetsField};
+ghost use Rattle.ts_bit_rows.specs.BitRow.{field, SetsField};
 
 /// The bytes end before the bits that were asked for.
 #[derive(Debug, Clone, Copy, PartialEq, Eq)]

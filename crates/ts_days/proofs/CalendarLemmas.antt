@@ -69,24 +69,24 @@ epoch_of year month day late some =
 
 -- ---- the number of a day
 
-pub lawful : (d : Day) → is_day d ≡ true → (1 ≤ d.month) × (d.month ≤ 12) × (1 ≤ d.day) × (d.day ≤ month_length d.year d.month)
-lawful d is =
+pub valid : (d : Day) → is_day d ≡ true → (1 ≤ d.month) × (d.month ≤ 12) × (1 ≤ d.day) × (d.day ≤ month_length d.year d.month)
+valid d is =
     let a = both (nat_le 1 d.month) _ is in
     let b = both (nat_le d.month 12) _ a.1 in
     let e = both (nat_le 1 d.day) (nat_le d.day (month_length d.year d.month)) b.1 in
     (leb-true _ _ a.0, leb-true _ _ b.0, leb-true _ _ e.0, leb-true _ _ e.1)
 
-is_lawful : (d : Day) → 1 ≤ d.month → d.month ≤ 12 → 1 ≤ d.day → d.day ≤ month_length d.year d.month → is_day d ≡ true
-is_lawful d a b e f = rw (le-leb _ _ a, le-leb _ _ b, le-leb _ _ e, le-leb _ _ f) refl
+is_valid : (d : Day) → 1 ≤ d.month → d.month ≤ 12 → 1 ≤ d.day → d.day ≤ month_length d.year d.month → is_day d ≡ true
+is_valid d a b e f = rw (le-leb _ _ a, le-leb _ _ b, le-leb _ _ e, le-leb _ _ f) refl
 
 -- the dates that `jiff` has are these
 pub date_is_day : (d : Day) → IsDate (pos d.year) (pos d.month) (pos d.day) → is_day d ≡ true
 date_is_day d h =
-    is_lawful d (omega (arith, signed_arith, h.1.0)) (omega (arith, signed_arith, h.1.1)) (omega (arith, signed_arith, h.2.0)) (omega (arith, signed_arith, h.2.1))
+    is_valid d (omega (arith, signed_arith, h.1.0)) (omega (arith, signed_arith, h.1.1)) (omega (arith, signed_arith, h.2.0)) (omega (arith, signed_arith, h.2.1))
 
 pub day_is_date : (d : Day) → d.year ≤ 9999 → is_day d ≡ true → IsDate (pos d.year) (pos d.month) (pos d.day)
 day_is_date d small is =
-    let l = lawful d is in
+    let l = valid d is in
     ((omega (arith, signed_arith), omega (arith, signed_arith)), (omega (arith, signed_arith, l.0), omega (arith, signed_arith, l.1)), (omega (arith, signed_arith, l.2), omega (arith, signed_arith, l.3)))
 
 pub early : (d : Day) → d.year < 1858 → None ≡ number_of_day d
@@ -120,13 +120,13 @@ pub found : (d : Day) (e : ℤ) (r : Option ℕ) → is_day d ≡ true → 1858 
     → IfSome r (λ n. (pos n ≡ e +ℤ pos 40587) × (n < 65536)) → IfNone r (((e +ℤ pos 40587) <ℤ pos 0) ⊎ (pos 65535 <ℤ (e +ℤ pos 40587)))
     → r ≡ number_of_day d
 found d e (Some n) is late same some none =
-    let at : e +ℤ pos 40907 ≡ pos (days_before d) = ap (λ z. z +ℤ pos 40907) same ∙ epoch_of d.year d.month d.day late (lawful d is).2 in
+    let at : e +ℤ pos 40907 ≡ pos (days_before d) = ap (λ z. z +ℤ pos 40907) same ∙ epoch_of d.year d.month d.day late (valid d is).2 in
     numbered d is late n (omega (arith, signed_arith, at, some.0)) some.1
 found d e None is late same some (inl less) =
-    let at : e +ℤ pos 40907 ≡ pos (days_before d) = ap (λ z. z +ℤ pos 40907) same ∙ epoch_of d.year d.month d.day late (lawful d is).2 in
+    let at : e +ℤ pos 40907 ≡ pos (days_before d) = ap (λ z. z +ℤ pos 40907) same ∙ epoch_of d.year d.month d.day late (valid d is).2 in
     outside d is late (inl (omega (arith, signed_arith, at, less)))
 found d e None is late same some (inr more) =
-    let at : e +ℤ pos 40907 ≡ pos (days_before d) = ap (λ z. z +ℤ pos 40907) same ∙ epoch_of d.year d.month d.day late (lawful d is).2 in
+    let at : e +ℤ pos 40907 ≡ pos (days_before d) = ap (λ z. z +ℤ pos 40907) same ∙ epoch_of d.year d.month d.day late (valid d is).2 in
     outside d is late (inr (omega (arith, signed_arith, at, more)))
 
 -- ---- the day of a number
@@ -156,7 +156,7 @@ month_walk (suc most) first (suc k) year day some inside few =
 -- the days of a year before a day in it are fewer than the year's
 in_year : (d : Day) → is_day d ≡ true → months_length d.year 1 (d.month - 1) + (d.day - 1) < year_length d.year
 in_year d is =
-    let l = lawful d is in
+    let l = valid d is in
     let more : days_of_months (pos d.year) d.month ≡ days_of_months (pos d.year) (d.month - 1) + month_length d.year d.month = days_of_months_more (pos d.year) d.month l.0 in
     let order : days_of_months (pos d.year) d.month ≤ days_of_months (pos d.year) 12 = days_of_months_mono (pos d.year) d.month 12 l.1 in
     let all : days_of_months (pos d.year) 12 ≡ year_length d.year = days_of_months_all (pos d.year) in
@@ -164,7 +164,7 @@ in_year d is =
 
 month_found : (d : Day) → is_day d ≡ true → day_of_month 12 d.year 1 (months_length d.year 1 (d.month - 1) + (d.day - 1)) ≡ d
 month_found d is =
-    let l = lawful d is in
+    let l = valid d is in
     let z : 1 + (d.month - 1) ≡ d.month = omega (arith, l.0) in
     let inside : d.day ≤ month_length d.year (1 + (d.month - 1)) = rw z l.3 in
     month_walk 12 1 (d.month - 1) d.year d.day l.2 inside (omega (arith, l.1)) ∙ ap (λ m. record { year = d.year; month = m; day = d.day }) z
@@ -210,7 +210,7 @@ record SomeDay (days most first : ℕ) : Type 0 where
   on : ℕ
   at : day.year ≡ first + on
   few : on ≤ most
-  lawful_day : is_day day ≡ true
+  valid_day : is_day day ≡ true
   same : days ≡ years_length first on + (months_length day.year 1 (day.month - 1) + (day.day - 1))
 
 record SomeMonth (days most first year : ℕ) : Type 0 where
@@ -263,7 +263,7 @@ first_year most first days short =
       on = 0;
       at = omega arith;
       few = omega arith;
-      lawful_day = is_lawful d (omega arith) (omega (arith, month.few)) month.some month.inside;
+      valid_day = is_valid d (omega arith) (omega (arith, month.few)) month.some month.inside;
       same = rw back (omega (arith, month.same));
     }
 
@@ -277,7 +277,7 @@ some_day (suc most) first days less = by_order days (year_length first) (first_y
       on = suc rest.on;
       at = omega (arith, rest.at);
       few = omega (arith, rest.few);
-      lawful_day = rest.lawful_day;
+      valid_day = rest.valid_day;
       same = omega (arith, rest.same);
     })
 
@@ -289,7 +289,7 @@ centuries = lit< tt
 pub record Told (n : ℕ) : Type 0 where
   pub day : Day
   pub tells : day ≡ day_numbered n
-  pub lawful_day : is_day day ≡ true
+  pub valid_day : is_day day ≡ true
   pub year : day.year ≤ 9999
   pub number : number_of_day day ≡ Some n
 
@@ -302,10 +302,10 @@ every_number n small =
     let late : 1858 ≤ s.day.year = omega (arith, s.at) in
     record {
       day = s.day;
-      tells = told s.day n s.lawful_day late (omega (arith, s.at, s.few)) same;
-      lawful_day = s.lawful_day;
+      tells = told s.day n s.valid_day late (omega (arith, s.at, s.few)) same;
+      valid_day = s.valid_day;
       year = omega (arith, s.at, s.few);
-      number = sym (numbered s.day s.lawful_day late n same small);
+      number = sym (numbered s.day s.valid_day late n same small);
     }
 
 -- ---- the date of `jiff` with a number of 16 bits
@@ -336,7 +336,7 @@ day_found (pos y) month day n date small is =
     let d : Day = record { year = y; month = month; day = day } in
     let late : 1858 ≤ y = omega (arith, signed_arith, bounds.0) in
     let same : days_before d ≡ n + 320 = omega (arith, signed_arith, is, epoch_of y month day late date.2.0) in
-    (omega (arith, signed_arith), bounds.1, omega (arith, signed_arith, bounds.1), told d n (is_lawful d date.1.0 date.1.1 date.2.0 date.2.1) late (omega (arith, signed_arith, bounds.1)) same)
+    (omega (arith, signed_arith), bounds.1, omega (arith, signed_arith, bounds.1), told d n (is_valid d date.1.0 date.1.1 date.2.0 date.2.1) late (omega (arith, signed_arith, bounds.1)) same)
 
 -- what the code computes of a number
 pub epoch_day_is : (n : ℕ) (e x y : ℤ) → n < 65536 → x ≡ pos n → y ≡ pos 40587

@@ -8,7 +8,7 @@ use Rattle.ts_days.specs.Calendar.{month_length, day_numbered}
 use Rattle.ts_days.specs.Digits.{digit_at, last_digit}
 use Rattle.ts_days.specs.DayTexts.{text_of_day, day_written, day_of, day_text}
 use Rattle.ts_days.specs.TimeTexts.{time_text, digits_written, time_of, start_text, moment_of, start_of}
-use Rattle.ts_days.proofs.CalendarLemmas.{both, every_number, lawful}
+use Rattle.ts_days.proofs.CalendarLemmas.{both, every_number, valid}
 
 -- a digit of a number below ten
 digit_there : (text : List ℕ) (place n : ℕ) → slice_index text place ≡ 48 + n → n ≤ 9 → digit_at text place ≡ Some n
@@ -46,7 +46,7 @@ pub day_again : (n : ℕ) → n < 2 ^ 16 → day_of (day_text n) ≡ Some n
 unfolding day_of day_text
 day_again n small =
     let t = every_number n small in
-    let l = lawful t.day t.lawful_day in
+    let l = valid t.day t.valid_day in
     let written = written_day t.day t.year (omega (arith, l.1)) (omega (arith, l.3, month_small t.day.year t.day.month)) in
     rw (← t.tells, written) t.number
 

@@ -7,7 +7,7 @@ use Rattle.ts_section.specs.declared.long_head.LongHead.{LongHead}
 use Rattle.ts_section.specs.SectionRun.{stands_alone}
 use Rattle.ts_demux.proofs.Choice.{if_true, if_false, true_or_false}
 use Rattle.ts_demux.proofs.ErasLemmas.{era_of-other, era_of-on, era_of-new, era_of-same, belongs_of_tests, other_key, equal_keys, alone_has_no_key}
-use Rattle.ts_demux.specs.Tables.{same_key, same_era, era_of, completed, table_at, tables_behind, tables_of}
+use Rattle.ts_demux.specs.Tables.{same_key, same_era, era_of, completed, table_at, tables_after, tables_of}
 use Rattle.ts_demux.specs.Keys.{key_of, key_eq}
 use Rattle.ts_demux.specs.Era.{IsEra, EntryStands, HasEra, EraStands}
 use Rattle.ts_demux.specs.AssemblyState.{AssemblyState, StandsFor, era_at}
@@ -103,17 +103,17 @@ stands-fresh a f empty =
       entries = λ s t. subst (λ o. EntryStands o (version_of s) (last_number_of s) (era_of [] s)) (sym (empty (key_of s))) (nothing_before s);
     }
 
-tables_behind-push :
+tables_after-push :
     (before ss : List (List ℕ)) (s : List ℕ) →
-    tables_behind before (ss ++ s ∷ []) ≡ tables_behind before ss ++ option_to_list (table_at (before ++ ss) s)
-unfolding tables_behind
-tables_behind-push before [] s =
+    tables_after before (ss ++ s ∷ []) ≡ tables_after before ss ++ option_to_list (table_at (before ++ ss) s)
+unfolding tables_after
+tables_after-push before [] s =
     append-nil (option_to_list (table_at before s)) ∙ ap (λ t. option_to_list (table_at t s)) (sym (append-nil before))
-tables_behind-push before (x ∷ ss) s =
+tables_after-push before (x ∷ ss) s =
     let first = option_to_list (table_at before x) in
-    ap (λ t. first ++ t) (tables_behind-push (before ++ x ∷ []) ss s ∙ ap (λ t. tables_behind (before ++ x ∷ []) ss ++ option_to_list (table_at t s)) (append_assoc before (x ∷ []) ss))
-    ∙ sym (append_assoc first (tables_behind (before ++ x ∷ []) ss) (option_to_list (table_at (before ++ x ∷ ss) s)))
+    ap (λ t. first ++ t) (tables_after-push (before ++ x ∷ []) ss s ∙ ap (λ t. tables_after (before ++ x ∷ []) ss ++ option_to_list (table_at t s)) (append_assoc before (x ∷ []) ss))
+    ∙ sym (append_assoc first (tables_after (before ++ x ∷ []) ss) (option_to_list (table_at (before ++ x ∷ ss) s)))
 
 -- the tables of one section more
 pub tables_of-push : (before : List (List ℕ)) (s : List ℕ) → tables_of (before ++ s ∷ []) ≡ tables_of before ++ option_to_list (table_at before s)
-tables_of-push before s = tables_behind-push [] before s
+tables_of-push before s = tables_after-push [] before s

@@ -5,7 +5,7 @@ use Rattle.std.proofs.lemmas.List.{get_or_append_left, take-append-le, drop-appe
 use Rattle.std.proofs.lemmas.Bool.Decides.{leb_tells}
 use Rattle.std.proofs.lemmas.Bool.{leb-true, le-leb}
 use Rattle.std.proofs.lemmas.List.Elements.{filter-append}
-use Rattle.bit_rows.specs.BitRow.{bit_of, field}
+use Rattle.ts_bit_rows.specs.BitRow.{bit_of, field}
 use Rattle.ts_section.specs.SectionFields.{table_id_of, section_length_of}
 use Rattle.ts_section.specs.FirstBroken.{is_section}
 use Rattle.ts_demux.proofs.Choice.{if_true, if_false, true_or_false, both_true, not_true, not_of_false, and_true}

@@ -5,7 +5,7 @@ use Rattle.std.specs.Option.{option_map, option_to_list}
 use Rattle.std.proofs.lemmas.List.{append_cancel_left}
 use Rattle.ts_demux.proofs.Choice.{if_true, if_false}
 use Rattle.ts_demux.proofs.Remembering.{sections-remembered}
-use Rattle.ts_demux.proofs.Little.{sections_behind-nothing}
+use Rattle.ts_demux.proofs.Little.{sections_after-nothing}
 use Rattle.ts_packet.specs.Header.{counter_of, unit_start_of}
 use Rattle.ts_packet.specs.Payload.{payload_of}
 use Rattle.ts_demux.specs.Part.{Part}
@@ -13,7 +13,7 @@ use Rattle.ts_demux.specs.CountedPackets.{counts, part_of_packet, counted, count
 use Rattle.ts_demux.specs.SectionsOfParts.{sections_of_parts}
 use Rattle.ts_demux.specs.SectionsOfPid.{sections_of_pid}
 use Rattle.ts_demux.specs.DemuxState.{DemuxState, StandsFor, TakesIn}
-use Rattle.ts_demux.specs.Reader.{part_of, remembered_by, IsAtRest, Takes, sections_behind}
+use Rattle.ts_demux.specs.Reader.{part_of, remembered_by, IsAtRest, Takes, sections_after}
 use Rattle.ts_demux.specs.declared.reader.StretchReader.{StretchReader}
 
 -- nothing comes of a remembered part alone
@@ -23,7 +23,7 @@ remembered_nothing :
 unfolding sections_of_parts
 remembered_nothing None r rest = refl
 remembered_nothing (Some counter) r rest =
-    sections-remembered r.is_open r.unfinished.items counter [] ∙ append-nil (sections_behind r.is_open r.unfinished.items []) ∙ sections_behind-nothing r.is_open r.unfinished.items rest.little.not_whole
+    sections-remembered r.is_open r.unfinished.items counter [] ∙ append-nil (sections_after r.is_open r.unfinished.items []) ∙ sections_after-nothing r.is_open r.unfinished.items rest.little.not_whole
 
 pub nothing_remembered : (r : StretchReader) → IsAtRest r → sections_of_parts (option_to_list (remembered_by r) ++ []) ≡ []
 nothing_remembered r rest = remembered_nothing r.last r rest

@@ -13,6 +13,6 @@ pub mod WholeEra
 pub mod EraEntries
 pub mod ErasLemmas
 pub mod Assembling
-pub mod TablesBehind
+pub mod TablesAfter
 pub mod UncountedPackets
 pub mod TakenLemmas

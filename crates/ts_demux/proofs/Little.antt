@@ -6,7 +6,7 @@ use Rattle.ts_demux.proofs.Cutting.{short_is_not_whole, unfinished_is_short, sec
 use Rattle.ts_demux.specs.Cut.{is_whole_in_front}
 use Rattle.ts_demux.specs.Pieces.{IsAlive, IsOver}
 use Rattle.ts_demux.specs.SectionsOfParts.{sections_in}
-use Rattle.ts_demux.specs.Reader.{HoldsLittle, IsAtRest, sections_behind}
+use Rattle.ts_demux.specs.Reader.{HoldsLittle, IsAtRest, sections_after}
 use Rattle.ts_demux.specs.declared.reader.StretchReader.{StretchReader}
 
 pub little-empty : (r : StretchReader) → r.unfinished.items ≡ [] → HoldsLittle r
@@ -34,15 +34,15 @@ rest-fresh r n o e =
     }
 
 -- a stretch of which nothing more comes may be closed
-pub sections_behind-ended :
+pub sections_after-ended :
     (before after : List (List ℕ)) (was_open is_open : Bool) (old bytes grown empty more : List ℕ) →
     was_open ≡ true → is_open ≡ false → grown ≡ old ++ bytes →
     before ++ sections_in (grown ++ more) ≡ after →
-    before ++ sections_behind was_open old (bytes ++ more) ≡ after ++ sections_behind is_open empty more
-sections_behind-ended before after was_open is_open old bytes grown empty more o c g h =
-    let a : sections_behind was_open old (bytes ++ more) ≡ sections_in (old ++ (bytes ++ more)) = if_true was_open (sections_in (old ++ (bytes ++ more))) [] o in
+    before ++ sections_after was_open old (bytes ++ more) ≡ after ++ sections_after is_open empty more
+sections_after-ended before after was_open is_open old bytes grown empty more o c g h =
+    let a : sections_after was_open old (bytes ++ more) ≡ sections_in (old ++ (bytes ++ more)) = if_true was_open (sections_in (old ++ (bytes ++ more))) [] o in
     let b : sections_in (grown ++ more) ≡ sections_in (old ++ (bytes ++ more)) = ap sections_in (ap (λ t. t ++ more) g ∙ append_assoc old bytes more) in
-    let d : sections_behind is_open empty more ≡ [] = if_false is_open (sections_in (empty ++ more)) [] c in
+    let d : sections_after is_open empty more ≡ [] = if_false is_open (sections_in (empty ++ more)) [] c in
     ap (λ t. before ++ t) (a ∙ sym b) ∙ h ∙ sym (ap (λ t. after ++ t) d ∙ append-nil after)
 
 -- of bytes whose rest behind the whole pieces is over, no more than these pieces come
@@ -58,7 +58,7 @@ cut-over before after bytes given seen at g s h over more =
     cut ∙ ap (λ t. after ++ t) (sections_in-over (drop at bytes) more rest) ∙ append-nil after
 
 -- with no more bytes nothing comes of what is not whole
-pub sections_behind-nothing :
-    (is_open : Bool) (bytes : List ℕ) → is_whole_in_front bytes ≡ false → sections_behind is_open bytes [] ≡ []
-sections_behind-nothing true bytes w = ap sections_in (append-nil bytes) ∙ sections_in-stop bytes w
-sections_behind-nothing false bytes w = refl
+pub sections_after-nothing :
+    (is_open : Bool) (bytes : List ℕ) → is_whole_in_front bytes ≡ false → sections_after is_open bytes [] ≡ []
+sections_after-nothing true bytes w = ap sections_in (append-nil bytes) ∙ sections_in-stop bytes w
+sections_after-nothing false bytes w = refl

@@ -4,9 +4,9 @@ use Rattle.std.specs.List.{flat_map}
 use Rattle.std.proofs.lemmas.Bool.Decides.{leb_tells}
 use Rattle.ts_demux.proofs.Choice.{if_true, if_false}
 use Rattle.ts_demux.proofs.Runs.{all_stretches, following, all_stretches-plain, all_stretches-unit}
-use Rattle.ts_demux.specs.Part.{Part, is_lawless, without_repeats}
+use Rattle.ts_demux.specs.Part.{Part, is_invalid, without_repeats}
 use Rattle.ts_demux.specs.SectionsOfParts.{sections_in, sections_of_parts}
-use Rattle.ts_demux.specs.Reader.{part_of, sections_behind}
+use Rattle.ts_demux.specs.Reader.{part_of, sections_after}
 
 -- the sections of a list of parts without repeats
 abbrev pub sections_left : List Part → List (List ℕ)
@@ -15,39 +15,39 @@ sections_left ps = flat_map sections_in (all_stretches ps)
 longer_than_none : (n : ℕ) → nat_le (suc n) 0 ≡ false
 longer_than_none n = elim (leb_tells (suc n) 0) as (λ _. nat_le (suc n) 0 ≡ false) [ inl h ↦ absurd (omega (arith, h.1)) | inr h ↦ h.0 ]
 
-remembered_is_lawful : (is_open : Bool) (bytes : List ℕ) (counter : ℕ) → is_lawless (part_of is_open bytes counter) ≡ false
-remembered_is_lawful true bytes counter = longer_than_none (length bytes)
-remembered_is_lawful false bytes counter = refl
+remembered_is_valid : (is_open : Bool) (bytes : List ℕ) (counter : ℕ) → is_invalid (part_of is_open bytes counter) ≡ false
+remembered_is_valid true bytes counter = longer_than_none (length bytes)
+remembered_is_valid false bytes counter = refl
 
 -- behind a remembered part its stretch goes on with what follows
 pub sections_left-remembered :
     (is_open : Bool) (bytes : List ℕ) (counter : ℕ) (ps : List Part) →
     sections_left (part_of is_open bytes counter ∷ ps)
-    ≡ sections_behind is_open bytes (following counter ps) ++ sections_left ps
+    ≡ sections_after is_open bytes (following counter ps) ++ sections_left ps
 sections_left-remembered true bytes counter ps =
-    ap (flat_map sections_in) (all_stretches-unit (part_of true bytes counter) ps (remembered_is_lawful true bytes counter) refl (omega arith))
+    ap (flat_map sections_in) (all_stretches-unit (part_of true bytes counter) ps (remembered_is_valid true bytes counter) refl (omega arith))
 sections_left-remembered false bytes counter ps =
-    ap (flat_map sections_in) (all_stretches-plain (part_of false bytes counter) ps (remembered_is_lawful false bytes counter) refl)
+    ap (flat_map sections_in) (all_stretches-plain (part_of false bytes counter) ps (remembered_is_valid false bytes counter) refl)
 
 -- the parts behind one with this counter that do not repeat
-abbrev pub others_behind : ℕ → List Part → List Part
-others_behind counter ps = without_repeats (Some counter) ps
+abbrev pub others_after : ℕ → List Part → List Part
+others_after counter ps = without_repeats (Some counter) ps
 
 -- what is to come behind a remembered part
 pub sections-remembered :
     (is_open : Bool) (bytes : List ℕ) (counter : ℕ) (ps : List Part) →
     sections_of_parts (part_of is_open bytes counter ∷ ps)
-    ≡ sections_behind is_open bytes (following counter (others_behind counter ps)) ++ sections_left (others_behind counter ps)
+    ≡ sections_after is_open bytes (following counter (others_after counter ps)) ++ sections_left (others_after counter ps)
 unfolding sections_of_parts
-sections-remembered true bytes counter ps = sections_left-remembered true bytes counter (others_behind counter ps)
-sections-remembered false bytes counter ps = sections_left-remembered false bytes counter (others_behind counter ps)
+sections-remembered true bytes counter ps = sections_left-remembered true bytes counter (others_after counter ps)
+sections-remembered false bytes counter ps = sections_left-remembered false bytes counter (others_after counter ps)
 
-pub sections-first : (p : Part) (ps : List Part) → sections_of_parts (p ∷ ps) ≡ sections_left (p ∷ others_behind p.counter ps)
+pub sections-first : (p : Part) (ps : List Part) → sections_of_parts (p ∷ ps) ≡ sections_left (p ∷ others_after p.counter ps)
 unfolding sections_of_parts
 sections-first p ps = refl
 
-pub others-repeat : (p : Part) (ps : List Part) (counter : ℕ) → (counter == p.counter) ≡ true → others_behind counter (p ∷ ps) ≡ others_behind p.counter ps
-others-repeat p ps counter e = if_true (counter == p.counter) (others_behind p.counter ps) (p ∷ others_behind p.counter ps) e
+pub others-repeat : (p : Part) (ps : List Part) (counter : ℕ) → (counter == p.counter) ≡ true → others_after counter (p ∷ ps) ≡ others_after p.counter ps
+others-repeat p ps counter e = if_true (counter == p.counter) (others_after p.counter ps) (p ∷ others_after p.counter ps) e
 
-pub others-next : (p : Part) (ps : List Part) (counter : ℕ) → (counter == p.counter) ≡ false → others_behind counter (p ∷ ps) ≡ p ∷ others_behind p.counter ps
-others-next p ps counter e = if_false (counter == p.counter) (others_behind p.counter ps) (p ∷ others_behind p.counter ps) e
+pub others-next : (p : Part) (ps : List Part) (counter : ℕ) → (counter == p.counter) ≡ false → others_after counter (p ∷ ps) ≡ p ∷ others_after p.counter ps
+others-next p ps counter e = if_false (counter == p.counter) (others_after p.counter ps) (p ∷ others_after p.counter ps) e

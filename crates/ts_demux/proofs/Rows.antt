@@ -1,12 +1,12 @@
 -- Worked rows: the definitions computed on short sections over two packets, and on sections of tables.
 use Rattle.std.proofs.Common.{◌≡◌, ℕ, true, false, List, [], ◌∷◌, refl}
-use Rattle.bit_rows.specs.BitRow.{bit_of, field}
+use Rattle.ts_bit_rows.specs.BitRow.{bit_of, field}
 use Rattle.ts_section.specs.FirstBroken.{first_broken}
 use Rattle.ts_demux.specs.Part.{Part}
 use Rattle.ts_demux.specs.Stretches.{stretches}
 use Rattle.ts_demux.specs.Cut.{is_whole_in_front, cut_at_most, cut}
 use Rattle.ts_demux.specs.SectionsOfParts.{sections_in, sections_of_parts}
-use Rattle.ts_demux.specs.Tables.{era_of, firsts, table_at, tables_behind, tables_of}
+use Rattle.ts_demux.specs.Tables.{era_of, firsts, table_at, tables_after, tables_of}
 
 -- behind a pointer 0: the first four bytes of the short section 70 30 02 AA BB
 abbrev begun : ℕ → Part
@@ -22,9 +22,9 @@ unfolding sections_of_parts sections_in cut cut_at_most is_whole_in_front first_
 over_two_packets = refl
 
 -- the counter behind 15 is 0
-behind_15 : sections_of_parts (begun 15 ∷ ended 0 ∷ []) ≡ (0x70 ∷ 0x30 ∷ 0x02 ∷ 0xAA ∷ 0xBB ∷ []) ∷ []
+after_15 : sections_of_parts (begun 15 ∷ ended 0 ∷ []) ≡ (0x70 ∷ 0x30 ∷ 0x02 ∷ 0xAA ∷ 0xBB ∷ []) ∷ []
 unfolding sections_of_parts sections_in cut cut_at_most is_whole_in_front first_broken field bit_of
-behind_15 = refl
+after_15 = refl
 
 -- over a jump it is given up
 over_a_jump : sections_of_parts (begun 3 ∷ ended 5 ∷ []) ≡ []
@@ -38,13 +38,13 @@ pointed = record { counter = 4; unit_start = true; payload = 1 ∷ 0xBB ∷ 0x71
 between_pointed_places : stretches (begun 3 ∷ pointed ∷ []) ≡ (0x70 ∷ 0x30 ∷ 0x02 ∷ 0xAA ∷ 0xBB ∷ []) ∷ (0x71 ∷ []) ∷ []
 between_pointed_places = refl
 
--- a pointer past the payload is lawless and gives the section up
-abbrev lawless : Part
-lawless = record { counter = 4; unit_start = true; payload = 2 ∷ 0xBB ∷ [] }
+-- a pointer past the payload is invalid and gives the section up
+abbrev invalid : Part
+invalid = record { counter = 4; unit_start = true; payload = 2 ∷ 0xBB ∷ [] }
 
-lawless_gives_up : sections_of_parts (begun 3 ∷ lawless ∷ ended 5 ∷ []) ≡ []
+invalid_gives_up : sections_of_parts (begun 3 ∷ invalid ∷ ended 5 ∷ []) ≡ []
 unfolding sections_of_parts sections_in cut cut_at_most is_whole_in_front first_broken field bit_of
-lawless_gives_up = refl
+invalid_gives_up = refl
 
 -- a section of table_id 0x42 and extension 1 with a byte 5 that has its version and whether it is current, with its
 -- number, the last one, a body of one byte, and no true CRC, at which tables do not look
@@ -65,24 +65,24 @@ next_0 = 0xC0
 eras :
     tables_of (section version_0 0 0 7 ∷ section version_0 0 0 7 ∷ section version_1 0 0 8 ∷ section version_0 0 0 7 ∷ [])
     ≡ (section version_0 0 0 7 ∷ []) ∷ (section version_1 0 0 8 ∷ []) ∷ (section version_0 0 0 7 ∷ []) ∷ []
-unfolding tables_behind table_at era_of firsts field bit_of
+unfolding tables_after table_at era_of firsts field bit_of
 eras = refl
 
 -- another last number begins an era too: what was seen of the one before does not count
 last_number_changes : tables_of (section version_0 0 1 7 ∷ section version_0 1 2 8 ∷ section version_0 2 2 9 ∷ []) ≡ []
-unfolding tables_behind table_at era_of firsts field bit_of
+unfolding tables_after table_at era_of firsts field bit_of
 last_number_changes = refl
 
 -- the sections of the table that is current and of the next one come in turns
 current_and_next :
     tables_of (section version_0 0 1 7 ∷ section next_0 0 1 8 ∷ section version_0 1 1 9 ∷ section next_0 1 1 10 ∷ [])
     ≡ (section version_0 0 1 7 ∷ section version_0 1 1 9 ∷ []) ∷ (section next_0 0 1 8 ∷ section next_0 1 1 10 ∷ []) ∷ []
-unfolding tables_behind table_at era_of firsts field bit_of
+unfolding tables_after table_at era_of firsts field bit_of
 current_and_next = refl
 
 -- of two sections with one number the first is in the table, and the order is that of the numbers
 first_of_a_number :
     tables_of (section version_0 1 1 7 ∷ section version_0 1 1 8 ∷ section version_0 0 1 9 ∷ [])
     ≡ (section version_0 0 1 9 ∷ section version_0 1 1 7 ∷ []) ∷ []
-unfolding tables_behind table_at era_of firsts field bit_of
+unfolding tables_after table_at era_of firsts field bit_of
 first_of_a_number = refl

@@ -4,7 +4,7 @@ use Rattle.std.specs.Prelude.{if◌then◌else◌}
 use Rattle.std.specs.List.{flat_map}
 use Rattle.ts_demux.proofs.Choice.{if_true, if_false}
 use Rattle.ts_demux.proofs.Stretching.{lead, lead-plain, lead-unit, stretches-plain, stretches-unit}
-use Rattle.ts_demux.specs.Part.{Part, body_of, pointer_of, is_lawless}
+use Rattle.ts_demux.specs.Part.{Part, body_of, pointer_of, is_invalid}
 use Rattle.ts_demux.specs.ContinuousRuns.{goes_on, with_first, continuous_runs}
 use Rattle.ts_demux.specs.Stretches.{stretches}
 
@@ -43,18 +43,18 @@ stretches_all-unit :
 stretches_all-unit p [] e h = rw (stretches-unit p [] e h) refl
 stretches_all-unit p (run ∷ runs) e h = rw (stretches-unit p run e h) refl
 
--- a lawful part begins the runs or goes before the first of them
-runs-lawful :
-    (p : Part) (ps : List Part) → is_lawless p ≡ false →
+-- a valid part begins the runs or goes before the first of them
+runs-valid :
+    (p : Part) (ps : List Part) → is_invalid p ≡ false →
     continuous_runs (p ∷ ps) ≡ (if goes_on p.counter ps then with_first p (continuous_runs ps) else (p ∷ []) ∷ continuous_runs ps)
-runs-lawful p ps e =
+runs-valid p ps e =
     let runs = continuous_runs ps in
-    if_false (is_lawless p) runs (if goes_on p.counter ps then with_first p runs else (p ∷ []) ∷ runs) e
+    if_false (is_invalid p) runs (if goes_on p.counter ps then with_first p runs else (p ∷ []) ∷ runs) e
 
-pub all_stretches-lawless : (p : Part) (ps : List Part) → is_lawless p ≡ true → all_stretches (p ∷ ps) ≡ all_stretches ps
-all_stretches-lawless p ps e =
+pub all_stretches-invalid : (p : Part) (ps : List Part) → is_invalid p ≡ true → all_stretches (p ∷ ps) ≡ all_stretches ps
+all_stretches-invalid p ps e =
     let runs = continuous_runs ps in
-    ap (flat_map stretches) (if_true (is_lawless p) runs (if goes_on p.counter ps then with_first p runs else (p ∷ []) ∷ runs) e)
+    ap (flat_map stretches) (if_true (is_invalid p) runs (if goes_on p.counter ps then with_first p runs else (p ∷ []) ∷ runs) e)
 
 choose_plain : (b : Bool) (p : Part) (runs : List (List Part)) → p.unit_start ≡ false → flat_map stretches (if b then with_first p runs else (p ∷ []) ∷ runs) ≡ flat_map stretches runs
 choose_plain true p runs e = stretches_all-plain p runs e
@@ -67,16 +67,16 @@ choose_unit true p runs e h = stretches_all-unit p runs e h
 choose_unit false p runs e h = rw (stretches-unit p [] e h) refl
 
 pub all_stretches-plain :
-    (p : Part) (ps : List Part) → is_lawless p ≡ false → p.unit_start ≡ false →
+    (p : Part) (ps : List Part) → is_invalid p ≡ false → p.unit_start ≡ false →
     all_stretches (p ∷ ps) ≡ all_stretches ps
 all_stretches-plain p ps l e =
-    ap (flat_map stretches) (runs-lawful p ps l) ∙ choose_plain (goes_on p.counter ps) p (continuous_runs ps) e
+    ap (flat_map stretches) (runs-valid p ps l) ∙ choose_plain (goes_on p.counter ps) p (continuous_runs ps) e
 
 pub all_stretches-unit :
-    (p : Part) (ps : List Part) → is_lawless p ≡ false → p.unit_start ≡ true → pointer_of p ≤ length (body_of p) →
+    (p : Part) (ps : List Part) → is_invalid p ≡ false → p.unit_start ≡ true → pointer_of p ≤ length (body_of p) →
     all_stretches (p ∷ ps) ≡ (drop (pointer_of p) (body_of p) ++ following p.counter ps) ∷ all_stretches ps
 all_stretches-unit p ps l e h =
-    ap (flat_map stretches) (runs-lawful p ps l) ∙ choose_unit (goes_on p.counter ps) p (continuous_runs ps) e h
+    ap (flat_map stretches) (runs-valid p ps l) ∙ choose_unit (goes_on p.counter ps) p (continuous_runs ps) e h
 
 lead_choose_plain :
     (b : Bool) (p : Part) (runs : List (List Part)) → p.unit_start ≡ false →
@@ -93,23 +93,23 @@ lead_choose_unit false p runs e h = lead-unit p [] e h
 -- behind a counter that a part without unit start goes on from, its payload comes first
 pub following-plain :
     (counter : ℕ) (p : Part) (ps : List Part) →
-    goes_on counter (p ∷ ps) ≡ true → is_lawless p ≡ false → p.unit_start ≡ false →
+    goes_on counter (p ∷ ps) ≡ true → is_invalid p ≡ false → p.unit_start ≡ false →
     following counter (p ∷ ps) ≡ body_of p ++ following p.counter ps
 following-plain counter p ps g l e =
     if_true (goes_on counter (p ∷ ps)) (first_lead (continuous_runs (p ∷ ps))) [] g
-    ∙ ap first_lead (runs-lawful p ps l)
+    ∙ ap first_lead (runs-valid p ps l)
     ∙ lead_choose_plain (goes_on p.counter ps) p (continuous_runs ps) e
 
 -- a part with unit start ends what goes on at its pointed place
 pub following-unit :
     (counter : ℕ) (p : Part) (ps : List Part) →
-    goes_on counter (p ∷ ps) ≡ true → is_lawless p ≡ false → p.unit_start ≡ true → pointer_of p ≤ length (body_of p) →
+    goes_on counter (p ∷ ps) ≡ true → is_invalid p ≡ false → p.unit_start ≡ true → pointer_of p ≤ length (body_of p) →
     following counter (p ∷ ps) ≡ take (pointer_of p) (body_of p)
 following-unit counter p ps g l e h =
     if_true (goes_on counter (p ∷ ps)) (first_lead (continuous_runs (p ∷ ps))) [] g
-    ∙ ap first_lead (runs-lawful p ps l)
+    ∙ ap first_lead (runs-valid p ps l)
     ∙ lead_choose_unit (goes_on p.counter ps) p (continuous_runs ps) e h
 
--- nothing goes on over a jump or a lawless part
+-- nothing goes on over a jump or a invalid part
 pub following-stops : (counter : ℕ) (ps : List Part) → goes_on counter ps ≡ false → following counter ps ≡ []
 following-stops counter ps g = if_false (goes_on counter ps) (first_lead (continuous_runs ps)) [] g

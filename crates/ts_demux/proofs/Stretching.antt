@@ -19,8 +19,8 @@ pointed_places-add k n (p ∷ ps) =
     rw (add_assoc k n (pointer_of p), add_assoc k n (length (body_of p))) (places_if p.unit_start k (n + pointer_of p) (pointed_places (k + (n + length (body_of p))) ps) (pointed_places (n + length (body_of p)) ps) (pointed_places-add k (n + length (body_of p)) ps))
 
 -- counted from the end of a first row
-places_behind : (x : List ℕ) (ps : List Part) → pointed_places (0 + length x) ps ≡ map (λ i. length x + i) (pointed_places 0 ps)
-places_behind x ps =
+places_after : (x : List ℕ) (ps : List Part) → pointed_places (0 + length x) ps ≡ map (λ i. length x + i) (pointed_places 0 ps)
+places_after x ps =
     let e : 0 + length x ≡ length x + 0 = omega arith in
     rw e (pointed_places-add (length x) 0 ps)
 
@@ -48,7 +48,7 @@ places-plain :
     pointed_places 0 (p ∷ ps) ≡ map (λ i. length (body_of p) + i) (pointed_places 0 ps)
 places-plain p ps e =
     let places = pointed_places (0 + length (body_of p)) ps in
-    if_false p.unit_start ((0 + pointer_of p) ∷ places) places e ∙ places_behind (body_of p) ps
+    if_false p.unit_start ((0 + pointer_of p) ∷ places) places e ∙ places_after (body_of p) ps
 
 -- the pointed places of a run whose first part has one
 places-unit :
@@ -57,7 +57,7 @@ places-unit :
 places-unit p ps e =
     let places = pointed_places (0 + length (body_of p)) ps in
     let z : 0 + pointer_of p ≡ pointer_of p = omega arith in
-    if_true p.unit_start ((0 + pointer_of p) ∷ places) places e ∙ rw (z, places_behind (body_of p) ps) refl
+    if_true p.unit_start ((0 + pointer_of p) ∷ places) places e ∙ rw (z, places_after (body_of p) ps) refl
 
 -- the stretches of a run behind a part with no pointed place
 pub stretches-plain : (p : Part) (ps : List Part) → p.unit_start ≡ false → stretches (p ∷ ps) ≡ stretches ps

@@ -6,7 +6,7 @@ use Rattle.std.proofs.lemmas.Bool.Decides.{nat_tests}
 use Rattle.std.proofs.lemmas.List.Elements.{filter-append}
 use Rattle.ts_packet.specs.Header.{pid_of}
 use Rattle.ts_demux.specs.TablesOn.{packets_on}
-use Rattle.ts_demux.specs.TakenWhere.{taken_behind, taken_on, taken_where}
+use Rattle.ts_demux.specs.TakenWhere.{taken_after, taken_on, taken_where}
 
 -- one thing more, or none
 abbrev pub with_if : {X : Type 0} → Bool → List X → X → List X
@@ -24,23 +24,23 @@ last_alone false p = refl
 
 taken-behind :
     {X : Type 0} (test : List X → X → Bool) (before xs : List X) (p : X) →
-    taken_behind test before (xs ++ p ∷ []) ≡ with_if (test ((before ++ xs) ++ p ∷ []) p) (taken_behind test before xs) p
-unfolding taken_behind
+    taken_after test before (xs ++ p ∷ []) ≡ with_if (test ((before ++ xs) ++ p ∷ []) p) (taken_after test before xs) p
+unfolding taken_after
 taken-behind test before [] p =
     last_alone (test (before ++ p ∷ []) p) p ∙ ap (λ t. with_if (test (t ++ p ∷ []) p) [] p) (sym (append-nil before))
 taken-behind test before (x ∷ xs) p =
     let upto = before ++ x ∷ [] in
     let b = test upto x in
     ap (λ t. if b then x ∷ t else t) (taken-behind test upto xs p)
-    ∙ ap (λ t. if b then x ∷ with_if (test (t ++ p ∷ []) p) (taken_behind test upto xs) p else with_if (test (t ++ p ∷ []) p) (taken_behind test upto xs) p) (append_assoc before (x ∷ []) xs)
-    ∙ cons_with b (test ((before ++ x ∷ xs) ++ p ∷ []) p) x p (taken_behind test upto xs)
+    ∙ ap (λ t. if b then x ∷ with_if (test (t ++ p ∷ []) p) (taken_after test upto xs) p else with_if (test (t ++ p ∷ []) p) (taken_after test upto xs) p) (append_assoc before (x ∷ []) xs)
+    ∙ cons_with b (test ((before ++ x ∷ xs) ++ p ∷ []) p) x p (taken_after test upto xs)
 
 -- the one law: one thing more is taken, or none
 pub taken-more : {X : Type 0} (test : List X → X → Bool) (xs : List X) (p : X) → taken_where test (xs ++ p ∷ []) ≡ with_if (test (xs ++ p ∷ []) p) (taken_where test xs) p
 taken-more test xs p = taken-behind test [] xs p
 
 pub taken-none : {X : Type 0} (test : List X → X → Bool) → taken_where test [] ≡ []
-unfolding taken_behind
+unfolding taken_after
 taken-none test = refl
 
 same_number : (n : ℕ) → (n == n) ≡ true
@@ -76,17 +76,17 @@ taken-unfollowed follows met p flag pid = by (nat_eq (pid_of p) pid) refl
         (taken-own follows met p false (sym flag))
 
 -- a test that does not look back filters
-pub taken-filter : {X : Type 0} (test : X → Bool) (before xs : List X) → taken_behind (λ upto x. test x) before xs ≡ filter test xs
-unfolding taken_behind
+pub taken-filter : {X : Type 0} (test : X → Bool) (before xs : List X) → taken_after (λ upto x. test x) before xs ≡ filter test xs
+unfolding taken_after
 taken-filter test before [] = refl
 taken-filter test before (x ∷ xs) = ap (λ t. if test x then x ∷ t else t) (taken-filter test (before ++ x ∷ []) xs)
 
 -- tests that agree take the same
-pub taken-same : {X : Type 0} (test other : List X → X → Bool) → ((upto : List X) (x : X) → test upto x ≡ other upto x) → (before xs : List X) → taken_behind test before xs ≡ taken_behind other before xs
-unfolding taken_behind
+pub taken-same : {X : Type 0} (test other : List X → X → Bool) → ((upto : List X) (x : X) → test upto x ≡ other upto x) → (before xs : List X) → taken_after test before xs ≡ taken_after other before xs
+unfolding taken_after
 taken-same test other same before [] = refl
 taken-same test other same before (x ∷ xs) =
-    ap (λ b. if b then x ∷ taken_behind test (before ++ x ∷ []) xs else taken_behind test (before ++ x ∷ []) xs) (same (before ++ x ∷ []) x)
+    ap (λ b. if b then x ∷ taken_after test (before ++ x ∷ []) xs else taken_after test (before ++ x ∷ []) xs) (same (before ++ x ∷ []) x)
     ∙ ap (λ t. if other (before ++ x ∷ []) x then x ∷ t else t) (taken-same test other same (before ++ x ∷ []) xs)
 
 -- tests that agree on a PID take the same on it

@@ -4,14 +4,14 @@ use Rattle.std.specs.List.{flat_map}
 use Rattle.std.proofs.lemmas.Bool.Decides.{leb_tells, nat_tests}
 use Rattle.std.specs.Option.{option_map, option_to_list}
 use Rattle.ts_demux.proofs.Choice.{if_true, if_false, true_or_false, and_true, and_false_first, not_of_false}
-use Rattle.ts_demux.proofs.Runs.{following, all_stretches-lawless, all_stretches-plain, all_stretches-unit, following-plain, following-unit, following-stops}
-use Rattle.ts_demux.proofs.Remembering.{sections_left, others_behind, sections-remembered, sections-first, others-repeat, others-next}
-use Rattle.ts_demux.proofs.Little.{sections_behind-nothing}
-use Rattle.ts_demux.specs.Part.{Part, body_of, pointer_of, is_lawless, repeats}
+use Rattle.ts_demux.proofs.Runs.{following, all_stretches-invalid, all_stretches-plain, all_stretches-unit, following-plain, following-unit, following-stops}
+use Rattle.ts_demux.proofs.Remembering.{sections_left, others_after, sections-remembered, sections-first, others-repeat, others-next}
+use Rattle.ts_demux.proofs.Little.{sections_after-nothing}
+use Rattle.ts_demux.specs.Part.{Part, body_of, pointer_of, is_invalid, repeats}
 use Rattle.ts_demux.specs.Cut.{is_whole_in_front}
-use Rattle.ts_demux.specs.Counters.{goes_on_behind}
+use Rattle.ts_demux.specs.Counters.{goes_on_after}
 use Rattle.ts_demux.specs.SectionsOfParts.{sections_in, sections_of_parts}
-use Rattle.ts_demux.specs.Reader.{part_of, sections_behind, Takes, EndsAtJump, HoldsLittle, IsAtRest}
+use Rattle.ts_demux.specs.Reader.{part_of, sections_after, Takes, EndsAtJump, HoldsLittle, IsAtRest}
 use Rattle.ts_demux.specs.declared.reader.StretchReader.{StretchReader}
 
 equal_numbers : (a b : ℕ) → (a == b) ≡ true → a ≡ b
@@ -25,22 +25,22 @@ and_false : (a b : Bool) → b ≡ false → (a && b) ≡ false
 and_false true b e = e
 and_false false b e = refl
 
-repeat_behind :
+repeat_after :
     (last : Option ℕ) (is_open : Bool) (bytes : List ℕ) (p : Part) (ps : List Part) →
     repeats last p.counter ≡ true → behind last is_open bytes (p ∷ ps) ≡ behind last is_open bytes ps
-repeat_behind None is_open bytes p ps e = cc
-repeat_behind (Some counter) is_open bytes p ps e =
+repeat_after None is_open bytes p ps e = cc
+repeat_after (Some counter) is_open bytes p ps e =
     let same : counter ≡ p.counter = equal_numbers counter p.counter e in
-    let o : others_behind counter (p ∷ ps) ≡ others_behind counter ps = others-repeat p ps counter e ∙ ap (λ n. others_behind n ps) (sym same) in
+    let o : others_after counter (p ∷ ps) ≡ others_after counter ps = others-repeat p ps counter e ∙ ap (λ n. others_after n ps) (sym same) in
     sections-remembered is_open bytes counter (p ∷ ps)
-    ∙ ap (λ t. sections_behind is_open bytes (following counter t) ++ sections_left t) o
+    ∙ ap (λ t. sections_after is_open bytes (following counter t) ++ sections_left t) o
     ∙ sym (sections-remembered is_open bytes counter ps)
 
 pub takes-repeat :
     (r : StretchReader) (p : Part) (before : List (List ℕ)) → repeats r.last p.counter ≡ true → Takes r r p before before
 takes-repeat r p before e =
     record {
-      sections = λ rest. ap (λ t. before ++ t) (repeat_behind r.last r.is_open r.unfinished.items p rest e);
+      sections = λ rest. ap (λ t. before ++ t) (repeat_after r.last r.is_open r.unfinished.items p rest e);
       grows = omega arith;
     }
 
@@ -48,38 +48,38 @@ takes-repeat r p before e =
 front :
     (last : Option ℕ) (old_open mid_open : Bool) (old_bytes mid_bytes : List ℕ) (p : Part) (ps : List Part) (lead : List ℕ) →
     repeats last p.counter ≡ false → is_whole_in_front old_bytes ≡ false →
-    (goes_on_behind last p.counter ≡ true → mid_open ≡ old_open) →
-    (goes_on_behind last p.counter ≡ true → mid_bytes ≡ old_bytes) →
-    (goes_on_behind last p.counter ≡ false → mid_open ≡ false) →
-    ((counter : ℕ) → (p.counter == (counter + 1) % 16) ≡ true → following counter (p ∷ others_behind p.counter ps) ≡ lead) →
-    behind last old_open old_bytes (p ∷ ps) ≡ sections_behind mid_open mid_bytes lead ++ sections_left (p ∷ others_behind p.counter ps)
+    (goes_on_after last p.counter ≡ true → mid_open ≡ old_open) →
+    (goes_on_after last p.counter ≡ true → mid_bytes ≡ old_bytes) →
+    (goes_on_after last p.counter ≡ false → mid_open ≡ false) →
+    ((counter : ℕ) → (p.counter == (counter + 1) % 16) ≡ true → following counter (p ∷ others_after p.counter ps) ≡ lead) →
+    behind last old_open old_bytes (p ∷ ps) ≡ sections_after mid_open mid_bytes lead ++ sections_left (p ∷ others_after p.counter ps)
 front None old_open mid_open old_bytes mid_bytes p ps lead n w o b e l =
-    let closed : sections_behind mid_open mid_bytes lead ≡ [] = if_false mid_open (sections_in (mid_bytes ++ lead)) [] (e refl) in
-    sections-first p ps ∙ ap (λ t. t ++ sections_left (p ∷ others_behind p.counter ps)) (sym closed)
+    let closed : sections_after mid_open mid_bytes lead ≡ [] = if_false mid_open (sections_in (mid_bytes ++ lead)) [] (e refl) in
+    sections-first p ps ∙ ap (λ t. t ++ sections_left (p ∷ others_after p.counter ps)) (sym closed)
 front (Some counter) old_open mid_open old_bytes mid_bytes p ps lead n w o b e l =
-    let others = others_behind p.counter ps in
+    let others = others_after p.counter ps in
     let open_on = sections-remembered old_open old_bytes counter (p ∷ ps) in
-    let next : others_behind counter (p ∷ ps) ≡ p ∷ others = others-next p ps counter n in
-    let s : behind (Some counter) old_open old_bytes (p ∷ ps) ≡ sections_behind old_open old_bytes (following counter (p ∷ others)) ++ sections_left (p ∷ others) =
-    open_on ∙ ap (λ t. sections_behind old_open old_bytes (following counter t) ++ sections_left t) next in
-    elim (true_or_false (p.counter == (counter + 1) % 16)) as (λ _. behind (Some counter) old_open old_bytes (p ∷ ps) ≡ sections_behind mid_open mid_bytes lead ++ sections_left (p ∷ others)) [
+    let next : others_after counter (p ∷ ps) ≡ p ∷ others = others-next p ps counter n in
+    let s : behind (Some counter) old_open old_bytes (p ∷ ps) ≡ sections_after old_open old_bytes (following counter (p ∷ others)) ++ sections_left (p ∷ others) =
+    open_on ∙ ap (λ t. sections_after old_open old_bytes (following counter t) ++ sections_left t) next in
+    elim (true_or_false (p.counter == (counter + 1) % 16)) as (λ _. behind (Some counter) old_open old_bytes (p ∷ ps) ≡ sections_after mid_open mid_bytes lead ++ sections_left (p ∷ others)) [
       | inl g ↦
-          (let f : sections_behind old_open old_bytes (following counter (p ∷ others)) ≡ sections_behind mid_open mid_bytes lead =
-          ap (λ t. sections_behind old_open old_bytes t) (l counter g)
-          ∙ ap (λ t. sections_behind t old_bytes lead) (sym (o g))
-          ∙ ap (λ t. sections_behind mid_open t lead) (sym (b g)) in
+          (let f : sections_after old_open old_bytes (following counter (p ∷ others)) ≡ sections_after mid_open mid_bytes lead =
+          ap (λ t. sections_after old_open old_bytes t) (l counter g)
+          ∙ ap (λ t. sections_after t old_bytes lead) (sym (o g))
+          ∙ ap (λ t. sections_after mid_open t lead) (sym (b g)) in
           s ∙ ap (λ t. t ++ sections_left (p ∷ others)) f)
       | inr g ↦
-          (let stop : following counter (p ∷ others) ≡ [] = following-stops counter (p ∷ others) (and_false (not (is_lawless p)) (p.counter == (counter + 1) % 16) g) in
-          let nothing : sections_behind old_open old_bytes (following counter (p ∷ others)) ≡ [] = ap (λ t. sections_behind old_open old_bytes t) stop ∙ sections_behind-nothing old_open old_bytes w in
-          let closed : sections_behind mid_open mid_bytes lead ≡ [] = if_false mid_open (sections_in (mid_bytes ++ lead)) [] (e g) in
+          (let stop : following counter (p ∷ others) ≡ [] = following-stops counter (p ∷ others) (and_false (not (is_invalid p)) (p.counter == (counter + 1) % 16) g) in
+          let nothing : sections_after old_open old_bytes (following counter (p ∷ others)) ≡ [] = ap (λ t. sections_after old_open old_bytes t) stop ∙ sections_after-nothing old_open old_bytes w in
+          let closed : sections_after mid_open mid_bytes lead ≡ [] = if_false mid_open (sections_in (mid_bytes ++ lead)) [] (e g) in
           s ∙ ap (λ t. t ++ sections_left (p ∷ others)) (nothing ∙ sym closed))
     ]
 
 -- what is to come behind a part that is remembered now
 back :
     (last : Option ℕ) (is_open : Bool) (bytes : List ℕ) (counter : ℕ) (ps : List Part) → last ≡ Some counter →
-    behind last is_open bytes ps ≡ sections_behind is_open bytes (following counter (others_behind counter ps)) ++ sections_left (others_behind counter ps)
+    behind last is_open bytes ps ≡ sections_after is_open bytes (following counter (others_after counter ps)) ++ sections_left (others_after counter ps)
 back last is_open bytes counter ps e =
     ap (λ l. behind l is_open bytes ps) e ∙ sections-remembered is_open bytes counter ps
 
@@ -87,14 +87,14 @@ back last is_open bytes counter ps e =
 mid_nothing :
     (last : Option ℕ) (old_open mid_open : Bool) (old_bytes mid_bytes : List ℕ) (counter : ℕ) →
     is_whole_in_front old_bytes ≡ false →
-    (goes_on_behind last counter ≡ true → mid_open ≡ old_open) →
-    (goes_on_behind last counter ≡ true → mid_bytes ≡ old_bytes) →
-    (goes_on_behind last counter ≡ false → mid_open ≡ false) →
-    sections_behind mid_open mid_bytes [] ≡ []
+    (goes_on_after last counter ≡ true → mid_open ≡ old_open) →
+    (goes_on_after last counter ≡ true → mid_bytes ≡ old_bytes) →
+    (goes_on_after last counter ≡ false → mid_open ≡ false) →
+    sections_after mid_open mid_bytes [] ≡ []
 mid_nothing last old_open mid_open old_bytes mid_bytes counter w o b e =
-    elim (true_or_false (goes_on_behind last counter)) as (λ _. sections_behind mid_open mid_bytes [] ≡ []) [
+    elim (true_or_false (goes_on_after last counter)) as (λ _. sections_after mid_open mid_bytes [] ≡ []) [
       | inl g ↦
-          (ap (λ t. sections_behind t mid_bytes []) (o g) ∙ ap (λ t. sections_behind old_open t []) (b g) ∙ sections_behind-nothing old_open old_bytes w)
+          (ap (λ t. sections_after t mid_bytes []) (o g) ∙ ap (λ t. sections_after old_open t []) (b g) ∙ sections_after-nothing old_open old_bytes w)
       | inr g ↦ if_false mid_open (sections_in (mid_bytes ++ [])) [] (e g)
     ]
 
@@ -109,40 +109,40 @@ join_up :
 join_up before after cut_old cut_new left e =
     sym (append_assoc before cut_old left) ∙ ap (λ t. t ++ left) e ∙ append_assoc after cut_new left
 
-plain_is_lawful : (p : Part) → p.unit_start ≡ false → is_lawless p ≡ false
-plain_is_lawful p e = and_false_first p.unit_start (nat_le (length p.payload) (pointer_of p)) e
+plain_is_valid : (p : Part) → p.unit_start ≡ false → is_invalid p ≡ false
+plain_is_valid p e = and_false_first p.unit_start (nat_le (length p.payload) (pointer_of p)) e
 
 pub takes-plain :
     (old mid new : StretchReader) (p : Part) (before after : List (List ℕ)) →
     repeats old.last p.counter ≡ false → is_whole_in_front old.unfinished.items ≡ false →
     EndsAtJump old mid p.counter → p.unit_start ≡ false → new.last ≡ mid.last →
-    ((more : List ℕ) → before ++ sections_behind mid.is_open mid.unfinished.items (p.payload ++ more) ≡ after ++ sections_behind new.is_open new.unfinished.items more) →
+    ((more : List ℕ) → before ++ sections_after mid.is_open mid.unfinished.items (p.payload ++ more) ≡ after ++ sections_after new.is_open new.unfinished.items more) →
     length before ≤ length after → Takes old new p before after
 takes-plain old mid new p before after n w jump plain same goes grows =
     record {
       sections = λ rest.
-          (let others = others_behind p.counter rest in
+          (let others = others_after p.counter rest in
           let f = following p.counter others in
-          let lawful = plain_is_lawful p plain in
+          let valid = plain_is_valid p plain in
           let body : body_of p ≡ p.payload = if_false p.unit_start (drop 1 p.payload) p.payload plain in
           let lead : (counter : ℕ) → (p.counter == (counter + 1) % 16) ≡ true → following counter (p ∷ others) ≡ p.payload ++ f =
-          λ counter g. following-plain counter p others (and_true (not (is_lawless p)) (p.counter == (counter + 1) % 16) (not_of_false (is_lawless p) lawful) g) lawful plain ∙ ap (λ t. t ++ f) body in
+          λ counter g. following-plain counter p others (and_true (not (is_invalid p)) (p.counter == (counter + 1) % 16) (not_of_false (is_invalid p) valid) g) valid plain ∙ ap (λ t. t ++ f) body in
           let a = front old.last old.is_open mid.is_open old.unfinished.items mid.unfinished.items p rest (p.payload ++ f) n w jump.same_open jump.same_bytes jump.ends lead in
-          let r : sections_left (p ∷ others) ≡ sections_left others = ap (flat_map sections_in) (all_stretches-plain p others lawful plain) in
+          let r : sections_left (p ∷ others) ≡ sections_left others = ap (flat_map sections_in) (all_stretches-plain p others valid plain) in
           let b = back new.last new.is_open new.unfinished.items p.counter rest (same ∙ jump.last) in
-          ap (λ t. before ++ t) (a ∙ ap (λ t. sections_behind mid.is_open mid.unfinished.items (p.payload ++ f) ++ t) r)
-          ∙ join_up before after (sections_behind mid.is_open mid.unfinished.items (p.payload ++ f)) (sections_behind new.is_open new.unfinished.items f) (sections_left others) (goes f)
+          ap (λ t. before ++ t) (a ∙ ap (λ t. sections_after mid.is_open mid.unfinished.items (p.payload ++ f) ++ t) r)
+          ∙ join_up before after (sections_after mid.is_open mid.unfinished.items (p.payload ++ f)) (sections_after new.is_open new.unfinished.items f) (sections_left others) (goes f)
           ∙ ap (λ t. after ++ t) (sym b));
       grows = grows;
     }
 
-unit_is_lawful : (p : Part) → pointer_of p < length p.payload → is_lawless p ≡ false
-unit_is_lawful p h =
+unit_is_valid : (p : Part) → pointer_of p < length p.payload → is_invalid p ≡ false
+unit_is_valid p h =
     and_false p.unit_start (nat_le (length p.payload) (pointer_of p))
     (elim (leb_tells (length p.payload) (pointer_of p)) as (λ _. nat_le (length p.payload) (pointer_of p) ≡ false) [ inl l ↦ absurd (omega (arith, l.1)) | inr l ↦ l.0 ])
 
-unit_is_lawless : (p : Part) → p.unit_start ≡ true → length p.payload ≤ pointer_of p → is_lawless p ≡ true
-unit_is_lawless p e h =
+unit_is_invalid : (p : Part) → p.unit_start ≡ true → length p.payload ≤ pointer_of p → is_invalid p ≡ true
+unit_is_invalid p e h =
     and_true p.unit_start (nat_le (length p.payload) (pointer_of p)) e
     (elim (leb_tells (length p.payload) (pointer_of p)) as (λ _. nat_le (length p.payload) (pointer_of p) ≡ true) [ inl l ↦ l.0 | inr l ↦ absurd (omega (arith, l.1)) ])
 
@@ -151,53 +151,53 @@ pub takes-unit :
     repeats old.last p.counter ≡ false → is_whole_in_front old.unfinished.items ≡ false →
     EndsAtJump old mid p.counter → p.unit_start ≡ true → pointer_of p < length p.payload →
     new.last ≡ mid.last → is_whole_in_front ended.unfinished.items ≡ false →
-    ((more : List ℕ) → before ++ sections_behind mid.is_open mid.unfinished.items (take (pointer_of p) (drop 1 p.payload) ++ more) ≡ between ++ sections_behind ended.is_open ended.unfinished.items more) →
-    ((more : List ℕ) → between ++ sections_in (drop (pointer_of p) (drop 1 p.payload) ++ more) ≡ after ++ sections_behind new.is_open new.unfinished.items more) →
+    ((more : List ℕ) → before ++ sections_after mid.is_open mid.unfinished.items (take (pointer_of p) (drop 1 p.payload) ++ more) ≡ between ++ sections_after ended.is_open ended.unfinished.items more) →
+    ((more : List ℕ) → between ++ sections_in (drop (pointer_of p) (drop 1 p.payload) ++ more) ≡ after ++ sections_after new.is_open new.unfinished.items more) →
     length before ≤ length after → Takes old new p before after
 takes-unit old mid ended new p before between after n w jump unit pointed same little goes begins grows =
     record {
       sections = λ rest.
-          (let others = others_behind p.counter rest in
+          (let others = others_after p.counter rest in
           let f = following p.counter others in
-          let lawful = unit_is_lawful p pointed in
+          let valid = unit_is_valid p pointed in
           let body : body_of p ≡ drop 1 p.payload = if_true p.unit_start (drop 1 p.payload) p.payload unit in
           let first = take (pointer_of p) (drop 1 p.payload) in
           let next = drop (pointer_of p) (drop 1 p.payload) in
           let within : pointer_of p ≤ length (body_of p) = omega (arith, ap length body, length-drop 1 p.payload) in
           let lead : (counter : ℕ) → (p.counter == (counter + 1) % 16) ≡ true → following counter (p ∷ others) ≡ first =
-          λ counter g. following-unit counter p others (and_true (not (is_lawless p)) (p.counter == (counter + 1) % 16) (not_of_false (is_lawless p) lawful) g) lawful unit within ∙ ap (take (pointer_of p)) body in
+          λ counter g. following-unit counter p others (and_true (not (is_invalid p)) (p.counter == (counter + 1) % 16) (not_of_false (is_invalid p) valid) g) valid unit within ∙ ap (take (pointer_of p)) body in
           let a = front old.last old.is_open mid.is_open old.unfinished.items mid.unfinished.items p rest first n w jump.same_open jump.same_bytes jump.ends lead in
           let r : sections_left (p ∷ others) ≡ sections_in (next ++ f) ++ sections_left others =
-          ap (flat_map sections_in) (all_stretches-unit p others lawful unit within) ∙ ap (λ t. sections_in (drop (pointer_of p) t ++ f) ++ sections_left others) body in
+          ap (flat_map sections_in) (all_stretches-unit p others valid unit within) ∙ ap (λ t. sections_in (drop (pointer_of p) t ++ f) ++ sections_left others) body in
           let b = back new.last new.is_open new.unfinished.items p.counter rest (same ∙ jump.last) in
-          let nothing = sections_behind-nothing ended.is_open ended.unfinished.items little in
-          let ends : before ++ sections_behind mid.is_open mid.unfinished.items first ≡ between ++ [] =
-          ap (λ t. before ++ sections_behind mid.is_open mid.unfinished.items t) (sym (append-nil first)) ∙ goes [] ∙ ap (λ t. between ++ t) nothing in
-          ap (λ t. before ++ t) (a ∙ ap (λ t. sections_behind mid.is_open mid.unfinished.items first ++ t) r)
-          ∙ join_up before between (sections_behind mid.is_open mid.unfinished.items first) [] (sections_in (next ++ f) ++ sections_left others) ends
-          ∙ join_up between after (sections_in (next ++ f)) (sections_behind new.is_open new.unfinished.items f) (sections_left others) (begins f)
+          let nothing = sections_after-nothing ended.is_open ended.unfinished.items little in
+          let ends : before ++ sections_after mid.is_open mid.unfinished.items first ≡ between ++ [] =
+          ap (λ t. before ++ sections_after mid.is_open mid.unfinished.items t) (sym (append-nil first)) ∙ goes [] ∙ ap (λ t. between ++ t) nothing in
+          ap (λ t. before ++ t) (a ∙ ap (λ t. sections_after mid.is_open mid.unfinished.items first ++ t) r)
+          ∙ join_up before between (sections_after mid.is_open mid.unfinished.items first) [] (sections_in (next ++ f) ++ sections_left others) ends
+          ∙ join_up between after (sections_in (next ++ f)) (sections_after new.is_open new.unfinished.items f) (sections_left others) (begins f)
           ∙ ap (λ t. after ++ t) (sym b));
       grows = grows;
     }
 
-pub takes-lawless :
+pub takes-invalid :
     (old mid new : StretchReader) (p : Part) (before : List (List ℕ)) →
     repeats old.last p.counter ≡ false → is_whole_in_front old.unfinished.items ≡ false →
     EndsAtJump old mid p.counter → p.unit_start ≡ true → length p.payload ≤ pointer_of p →
     new.last ≡ mid.last → new.is_open ≡ false → Takes old new p before before
-takes-lawless old mid new p before n w jump unit past same closed =
+takes-invalid old mid new p before n w jump unit past same closed =
     record {
       sections = λ rest.
-          (let others = others_behind p.counter rest in
+          (let others = others_after p.counter rest in
           let f = following p.counter others in
-          let lawless = unit_is_lawless p unit past in
+          let invalid = unit_is_invalid p unit past in
           let lead : (counter : ℕ) → (p.counter == (counter + 1) % 16) ≡ true → following counter (p ∷ others) ≡ [] =
-          λ counter g. following-stops counter (p ∷ others) (and_false_first (not (is_lawless p)) (p.counter == (counter + 1) % 16) (not_of_true (is_lawless p) lawless)) in
+          λ counter g. following-stops counter (p ∷ others) (and_false_first (not (is_invalid p)) (p.counter == (counter + 1) % 16) (not_of_true (is_invalid p) invalid)) in
           let a = front old.last old.is_open mid.is_open old.unfinished.items mid.unfinished.items p rest [] n w jump.same_open jump.same_bytes jump.ends lead in
           let nothing = mid_nothing old.last old.is_open mid.is_open old.unfinished.items mid.unfinished.items p.counter w jump.same_open jump.same_bytes jump.ends in
-          let r : sections_left (p ∷ others) ≡ sections_left others = ap (flat_map sections_in) (all_stretches-lawless p others lawless) in
+          let r : sections_left (p ∷ others) ≡ sections_left others = ap (flat_map sections_in) (all_stretches-invalid p others invalid) in
           let b = back new.last new.is_open new.unfinished.items p.counter rest (same ∙ jump.last) in
-          let c : sections_behind new.is_open new.unfinished.items f ≡ [] = if_false new.is_open (sections_in (new.unfinished.items ++ f)) [] closed in
+          let c : sections_after new.is_open new.unfinished.items f ≡ [] = if_false new.is_open (sections_in (new.unfinished.items ++ f)) [] closed in
           ap (λ t. before ++ t) (a ∙ ap (λ t. t ++ sections_left (p ∷ others)) nothing ∙ r ∙ sym (b ∙ ap (λ t. t ++ sections_left others) c)));
       grows = omega arith;
     }

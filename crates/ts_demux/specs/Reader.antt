@@ -3,7 +3,7 @@
 use Rattle.std.specs.Prelude.{◌≡◌, ℕ, ◌≤◌, ◌<◌, Bool, true, false, List, [], ◌∷◌, ◌++◌, length, Option, Some, None, if◌then◌else◌}
 use Rattle.std.specs.Option.{ForSome, option_map, option_to_list}
 use Rattle.ts_demux.specs.Part.{Part}
-use Rattle.ts_demux.specs.Counters.{goes_on_behind}
+use Rattle.ts_demux.specs.Counters.{goes_on_after}
 use Rattle.ts_demux.specs.Cut.{is_whole_in_front}
 use Rattle.ts_demux.specs.SectionsOfParts.{sections_in, sections_of_parts}
 use Rattle.ts_demux.specs.declared.reader.StretchReader.{StretchReader}
@@ -19,12 +19,12 @@ abbrev pub remembered_by : StretchReader → Option Part
 remembered_by r = option_map (part_of r.is_open r.unfinished.items) r.last
 
 -- the sections of an open stretch with these bytes, which goes on with more; of a closed one none
-abbrev pub sections_behind : Bool → List ℕ → List ℕ → List (List ℕ)
-sections_behind is_open bytes more = if is_open then sections_in (bytes ++ more) else []
+abbrev pub sections_after : Bool → List ℕ → List ℕ → List (List ℕ)
+sections_after is_open bytes more = if is_open then sections_in (bytes ++ more) else []
 
 -- the same for a reader's stretch
 abbrev pub sections_with : StretchReader → List ℕ → List (List ℕ)
-sections_with r more = sections_behind r.is_open r.unfinished.items more
+sections_with r more = sections_after r.is_open r.unfinished.items more
 
 -- a reader keeps less than one section, and nothing of a closed stretch
 pub record HoldsLittle (r : StretchReader) : Type 0 where
@@ -42,9 +42,9 @@ pub record IsAtRest (r : StretchReader) : Type 0 where
 pub record EndsAtJump (old new : StretchReader) (counter : ℕ) : Type 0 where
   pub last : new.last ≡ Some counter
   pub closed : new.is_open ≡ false → new.unfinished.items ≡ []
-  pub same_open : goes_on_behind old.last counter ≡ true → new.is_open ≡ old.is_open
-  pub same_bytes : goes_on_behind old.last counter ≡ true → new.unfinished.items ≡ old.unfinished.items
-  pub ends : goes_on_behind old.last counter ≡ false → new.is_open ≡ false
+  pub same_open : goes_on_after old.last counter ≡ true → new.is_open ≡ old.is_open
+  pub same_bytes : goes_on_after old.last counter ≡ true → new.unfinished.items ≡ old.unfinished.items
+  pub ends : goes_on_after old.last counter ≡ false → new.is_open ≡ false
 
 -- what a reader gives for a part: however the stream goes on, its sections are those that wait now,
 -- followed by those that the new reader has to come

@@ -54,10 +54,10 @@ unfoldable pub table_at : List (List ℕ) → List ℕ → Option (List (List �
 table_at before s = if stands_alone s then Some (s ∷ []) else completed (era_of before s) s
 
 -- the tables that sections complete after others
-unfoldable pub tables_behind : List (List ℕ) → List (List ℕ) → List (List (List ℕ))
-tables_behind before [] = []
-tables_behind before (s ∷ ss) = option_to_list (table_at before s) ++ tables_behind (before ++ s ∷ []) ss
+unfoldable pub tables_after : List (List ℕ) → List (List ℕ) → List (List (List ℕ))
+tables_after before [] = []
+tables_after before (s ∷ ss) = option_to_list (table_at before s) ++ tables_after (before ++ s ∷ []) ss
 
 -- the tables of a list of sections, each where its last section stands
 abbrev pub tables_of : List (List ℕ) → List (List (List ℕ))
-tables_of ss = tables_behind [] ss
+tables_of ss = tables_after [] ss

@@ -3,16 +3,16 @@ use Rattle.std.specs.Prelude.{ℕ, ◌==◌, ◌&&◌, Bool, List, [], ◌∷◌
 use Rattle.ts_packet.specs.Header.{pid_of}
 
 -- What a test takes of a list after another one. It is asked of each member with all up to it, itself the last of them.
-unfoldable pub taken_behind : {X : Type 0} → (List X → X → Bool) → List X → List X → List X
-taken_behind test before [] = []
-taken_behind test before (x ∷ xs) =
+unfoldable pub taken_after : {X : Type 0} → (List X → X → Bool) → List X → List X → List X
+taken_after test before [] = []
+taken_after test before (x ∷ xs) =
     let upto = before ++ x ∷ [] in
-    let others = taken_behind test upto xs in
+    let others = taken_after test upto xs in
     if test upto x then x ∷ others else others
 
 -- what a test takes of a list
 abbrev pub taken_where : {X : Type 0} → (List X → X → Bool) → List X → List X
-taken_where test xs = taken_behind test [] xs
+taken_where test xs = taken_after test [] xs
 
 -- The packets of any PID that are taken on one: those of the PID at whose positions it is followed, by the packets up to
 -- there, themselves included.

@@ -1,7 +1,7 @@
 //! The demultiplexer of one PID.
 
 ghost use Rattle.std.specs.Prelude.{◌≡◌, ℕ, ◌<◌, ◌≤◌, List, [], true, false, length, IfSome, IfNone, IfOk, OnErr, IsErr};
-ghost use Rattle.ts_section.specs.LawfulSection.{IsSection};
+ghost use Rattle.ts_section.specs.ValidSection.{IsSection};
 ghost use Rattle.ts_demux.specs.CountedPackets as counted;
 ghost use Rattle.ts_demux.specs.DemuxState.{StandsFor, TakesIn, GivesFirst};
 

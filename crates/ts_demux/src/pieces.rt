@@ -127,7 +127,7 @@ fn take_piece(
 }
 
 /// The table_id of bytes that begin a section.
-#[tactic(auto, unfolding(bit_rows::specs::BitRow::field, bit_rows::specs::BitRow::bit_of))]
+#[tactic(auto, unfolding(ts_bit_rows::specs::BitRow::field, ts_bit_rows::specs::BitRow::bit_of))]
 fn table_id(bytes: &[u8]) -> u8
     requires { 1 ≤ length bytes.now }
     ensures { result ≡ fields.table_id_of bytes.now }
@@ -136,7 +136,7 @@ fn table_id(bytes: &[u8]) -> u8
 }
 
 /// The section_length of bytes that begin a section.
-#[tactic(auto, unfolding(bit_rows::specs::BitRow::field, bit_rows::specs::BitRow::bit_of))]
+#[tactic(auto, unfolding(ts_bit_rows::specs::BitRow::field, ts_bit_rows::specs::BitRow::bit_of))]
 fn section_length(bytes: &[u8]) -> usize
     requires { 3 ≤ length bytes.now }
     ensures length { result ≡ fields.section_length_of bytes.now }

@@ -81,7 +81,7 @@ impl StretchReader {
         requires rest { IsAtRest self.old }
         ensures { EndsAtJump self.old self.new counter }
     {
-        if !goes_on_behind(self.last, counter) {
+        if !goes_on_after(self.last, counter) {
             self.close();
         }
         self.last = Some(counter);
@@ -141,9 +141,9 @@ fn repeats(last: Option<u8>, counter: u8) -> bool
 }
 
 /// Whether the counter is the one after the last, if there is a last one.
-fn goes_on_behind(last: Option<u8>, counter: u8) -> bool
+fn goes_on_after(last: Option<u8>, counter: u8) -> bool
     requires { ForSome last (λ last. last < 16) }
-    ensures { result ≡ counters.goes_on_behind last counter }
+    ensures { result ≡ counters.goes_on_after last counter }
 {
     match last {
         Some(last) => counter == (last + 1) % 16,
@@ -153,8 +153,8 @@ fn goes_on_behind(last: Option<u8>, counter: u8) -> bool
 
 /// The bytes of a payload with unit start before and after the place that its pointer names; none for an invalid pointer.
 fn split_at_pointer_field(payload: &[u8]) -> Option<(&[u8], &[u8])>
-    ensures lawless { IfNone result (length payload.now ≤ slice_index payload.now 0) }
-    ensures lawful { IfSome result (λ _. slice_index payload.now 0 < length payload.now) }
+    ensures invalid { IfNone result (length payload.now ≤ slice_index payload.now 0) }
+    ensures valid { IfSome result (λ _. slice_index payload.now 0 < length payload.now) }
     ensures before { IfSome result (λ around. around.0.now ≡ take (slice_index payload.now 0) (drop 1 payload.now)) }
     ensures after { IfSome result (λ around. around.1.now ≡ drop (slice_index payload.now 0) (drop 1 payload.now)) }
 {

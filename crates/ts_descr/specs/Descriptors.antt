@@ -37,13 +37,13 @@ abbrev pub typed_items : Page → List (List Held) → Typed
 typed_items p items = record { tag = p.tag; holding = items_alone items }
 
 -- the rows of each item, where there are items
-abbrev pub rows_behind : Option (List ℕ × List Row) → List Row
-rows_behind None = []
-rows_behind (Some i) = i.1
+abbrev pub rows_after : Option (List ℕ × List Row) → List Row
+rows_after None = []
+rows_after (Some i) = i.1
 
 -- the rows of each item of a page
 abbrev pub item_rows : Page → List Row
-item_rows p = rows_behind p.items
+item_rows p = rows_after p.items
 
 -- the descriptor of a page with these values
 pub record IsWritten (p : Page) (h : Holding) (d : TaggedBody) : Type 0 where

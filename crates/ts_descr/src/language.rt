@@ -46,7 +46,7 @@ impl LanguageCode {
     /// The bytes of the code.
     pub fn letters(&self) -> [u8; 3]
         ensures bytes { result ≡ self.now }
-        ensures lawful { (nat_eq (length self.now) 3 && are_printable self.now) ≡ true }
+        ensures valid { (nat_eq (length self.now) 3 && are_printable self.now) ≡ true }
     {
         self.letters
     }
@@ -54,7 +54,7 @@ impl LanguageCode {
     /// The bytes of the code as a `Vec`.
     pub fn to_vec(&self, alloc: Global) -> Result<Vec<u8>, AllocError>
         ensures bytes { IfOk result (λ v. v.items ≡ self.now) }
-        ensures lawful { (nat_eq (length self.now) 3 && are_printable self.now) ≡ true }
+        ensures valid { (nat_eq (length self.now) 3 && are_printable self.now) ≡ true }
     {
         Vec::from_slice(alloc, &self.letters)
     }

@@ -13,8 +13,8 @@ pub record IsPair (most byte : ℕ) : Type 0 where
 
 pub pair_of : (most byte : ℕ) → is_pair most byte ≡ true → IsPair most byte
 unfolding is_pair
-pair_of most byte lawful =
-    let one = and_parts (nat_le (byte / 16) 9) _ lawful in
+pair_of most byte valid =
+    let one = and_parts (nat_le (byte / 16) 9) _ valid in
     let two = and_parts (nat_le (byte % 16) 9) _ one.1 in
     record { high = leb-true (byte / 16) 9 one.0; low = leb-true (byte % 16) 9 two.0; small = leb-true (byte / 16 * 10 + byte % 16) most two.1 }
 
@@ -26,22 +26,22 @@ pair_is most byte high low small =
 -- a pair that is read is written as it was
 pub pair_again : (byte : ℕ) → is_pair 99 byte ≡ true → pair_bits (byte / 16 * 10 + byte % 16) ≡ byte
 unfolding pair_bits
-pair_again byte lawful = let w = pair_of 99 byte lawful in omega (arith, w.high, w.low)
+pair_again byte valid = let w = pair_of 99 byte valid in omega (arith, w.high, w.low)
 
 pub pair_most : (most byte : ℕ) → is_pair most byte ≡ true → byte / 16 * 10 + byte % 16 ≤ most
-pair_most most byte lawful = (pair_of most byte lawful).small
+pair_most most byte valid = (pair_of most byte valid).small
 
 pub pair_wider : (byte : ℕ) → is_pair 59 byte ≡ true → is_pair 99 byte ≡ true
-pair_wider byte lawful = let w = pair_of 59 byte lawful in pair_is 99 byte w.high w.low (omega (arith, w.small))
+pair_wider byte valid = let w = pair_of 59 byte valid in pair_is 99 byte w.high w.low (omega (arith, w.small))
 
 -- a number as a pair
 pub pair_small : (n : ℕ) → n ≤ 99 → pair_bits n < 256
 unfolding pair_bits
 pair_small n few = omega arith
 
-pair_lawful : (most n : ℕ) → n ≤ most → n ≤ 99 → is_pair most (pair_bits n) ≡ true
+pair_valid : (most n : ℕ) → n ≤ most → n ≤ 99 → is_pair most (pair_bits n) ≡ true
 unfolding pair_bits
-pair_lawful most n fits few = pair_is most (n / 10 * 16 + n % 10) (omega arith) (omega arith) (omega arith)
+pair_valid most n fits few = pair_is most (n / 10 * 16 + n % 10) (omega arith) (omega arith) (omega arith)
 
 -- the three bytes of a time
 high_byte : (a b c : ℕ) → b < 256 → c < 256 → (a * 65536 + (b * 256 + c)) / 65536 ≡ a
@@ -73,8 +73,8 @@ pub record IsTime (hours bits : ℕ) : Type 0 where
 
 pub time_of : (hours bits : ℕ) → is_time hours bits ≡ true → IsTime hours bits
 unfolding is_time
-time_of hours bits lawful =
-    let one = and_parts (is_pair hours (bits / 65536)) _ lawful in
+time_of hours bits valid =
+    let one = and_parts (is_pair hours (bits / 65536)) _ valid in
     let two = and_parts (is_pair 59 (bits / 256 % 256)) _ one.1 in
     record { hour = one.0; minute = two.0; second = two.1 }
 
@@ -87,29 +87,29 @@ time_again h m s bits one two high middle low =
     (ap pair_bits (minutes_in h m s one two) ∙ middle) (ap pair_bits (seconds_in h m s one two) ∙ low)
 
 -- a number of seconds is a time
-pub time_lawful : (hours seconds : ℕ) → hours ≤ 99 → seconds < hours * 3600 + 3600 → is_time hours (time_bits seconds) ≡ true
+pub time_valid : (hours seconds : ℕ) → hours ≤ 99 → seconds < hours * 3600 + 3600 → is_time hours (time_bits seconds) ≡ true
 unfolding is_time time_bits
-time_lawful hours seconds few inside =
+time_valid hours seconds few inside =
     let h = pair_bits (seconds / 3600) in
     let m = pair_bits (seconds / 60 % 60) in
     let s = pair_bits (seconds % 60) in
     let ms : m < 256 = pair_small (seconds / 60 % 60) (omega arith) in
     let ss : s < 256 = pair_small (seconds % 60) (omega arith) in
     and_from (is_pair hours ((h * 65536 + (m * 256 + s)) / 65536)) _
-    (ap (is_pair hours) (high_byte h m s ms ss) ∙ pair_lawful hours (seconds / 3600) (omega arith) (omega arith))
+    (ap (is_pair hours) (high_byte h m s ms ss) ∙ pair_valid hours (seconds / 3600) (omega arith) (omega arith))
     (and_from (is_pair 59 ((h * 65536 + (m * 256 + s)) / 256 % 256)) _
-    (ap (is_pair 59) (middle_byte h m s ms ss) ∙ pair_lawful 59 (seconds / 60 % 60) (omega arith) (omega arith))
-    (ap (is_pair 59) (low_byte h m s ms ss) ∙ pair_lawful 59 (seconds % 60) (omega arith) (omega arith)))
+    (ap (is_pair 59) (middle_byte h m s ms ss) ∙ pair_valid 59 (seconds / 60 % 60) (omega arith) (omega arith))
+    (ap (is_pair 59) (low_byte h m s ms ss) ∙ pair_valid 59 (seconds % 60) (omega arith) (omega arith)))
 
 or_right : (a b : Bool) → b ≡ true → (a || b) ≡ true
 or_right true b e = refl
 or_right false b e = e
 
 -- a start
-pub start_lawful : (day time : ℕ) → time < 2 ^ 24 → is_time 23 time ≡ true → is_start (day * 0x1000000 + time) ≡ true
+pub start_valid : (day time : ℕ) → time < 2 ^ 24 → is_time 23 time ≡ true → is_start (day * 0x1000000 + time) ≡ true
 unfolding is_start
-start_lawful day time small lawful =
-    or_right (nat_eq (day * 0x1000000 + time) 0xFFFFFFFFFF) (is_time 23 ((day * 0x1000000 + time) % 0x1000000)) (ap (is_time 23) (rest day time small) ∙ lawful)
+start_valid day time small valid =
+    or_right (nat_eq (day * 0x1000000 + time) 0xFFFFFFFFFF) (is_time 23 ((day * 0x1000000 + time) % 0x1000000)) (ap (is_time 23) (rest day time small) ∙ valid)
   where
     rest : (day time : ℕ) → time < 2 ^ 24 → (day * 0x1000000 + time) % 0x1000000 ≡ time
     rest day time small = omega arith
@@ -117,7 +117,7 @@ start_lawful day time small lawful =
 -- a start that is not undefined has a valid time
 pub start_time : (bits : ℕ) → (bits ≡ 0xFFFFFFFFFF → ⊥) → is_start bits ≡ true → is_time 23 (bits % 0x1000000) ≡ true
 unfolding is_start
-start_time bits defined lawful = other (nat_eq bits 0xFFFFFFFFFF) (is_time 23 (bits % 0x1000000)) (ne_eqb bits 0xFFFFFFFFFF defined) lawful
+start_time bits defined valid = other (nat_eq bits 0xFFFFFFFFFF) (is_time 23 (bits % 0x1000000)) (ne_eqb bits 0xFFFFFFFFFF defined) valid
   where
     other : (a b : Bool) → a ≡ false → (a || b) ≡ true → b ≡ true
     other false b no_undefined e = e
@@ -125,8 +125,8 @@ start_time bits defined lawful = other (nat_eq bits 0xFFFFFFFFFF) (is_time 23 (b
 
 pub time_wider : (bits : ℕ) → is_time 23 bits ≡ true → is_time 99 bits ≡ true
 unfolding is_time
-time_wider bits lawful =
-    let w = time_of 23 bits lawful in
+time_wider bits valid =
+    let w = time_of 23 bits valid in
     let p = pair_of 23 (bits / 65536) w.hour in
     and_from (is_pair 99 (bits / 65536)) _ (pair_is 99 (bits / 65536) p.high p.low (omega (arith, p.small))) (and_from (is_pair 59 (bits / 256 % 256)) _ w.minute w.second)
 
@@ -137,8 +137,8 @@ time_is hours seconds a b c few inside one two three =
     ap (λ x. is_time hours (x * 65536 + (b * 256 + c))) one
     ∙ ap (λ x. is_time hours (pair_bits (seconds / 3600) * 65536 + (x * 256 + c))) two
     ∙ ap (λ x. is_time hours (pair_bits (seconds / 3600) * 65536 + (pair_bits (seconds / 60 % 60) * 256 + x))) three
-    ∙ time_lawful hours seconds few inside
+    ∙ time_valid hours seconds few inside
 
-pub undefined_lawful : is_start 0xFFFFFFFFFF ≡ true
+pub undefined_valid : is_start 0xFFFFFFFFFF ≡ true
 unfolding is_start
-undefined_lawful = refl
+undefined_valid = refl

@@ -35,7 +35,7 @@ pub fn time_bits(seconds: u32) -> u64
     requires { seconds < 360000 }
     ensures bits { result ≡ EventTimes.time_bits seconds }
     ensures small { result < 2 ^ 24 }
-    ensures lawful { is_time 99 result ≡ true }
+    ensures valid { is_time 99 result ≡ true }
     ensures of_day { seconds < 86400 → is_time 23 result ≡ true }
 {
     let seconds = u64::from(seconds);
@@ -61,7 +61,7 @@ pub fn time_value(bits: u64) -> u32
 pub fn start_bits(start: Option<Start>) -> u64
     ensures bits { result ≡ EventTimes.start_bits start }
     ensures small { result < 2 ^ 40 }
-    ensures lawful { is_start result ≡ true }
+    ensures valid { is_start result ≡ true }
 {
     match start {
         Some(start) => u64::from(start.day) * 0x100_0000 + time_bits(start.second),
@@ -73,7 +73,7 @@ pub fn start_bits(start: Option<Start>) -> u64
 #[tactic(auto, unfolding(crate::specs::EventTimes::start_bits))]
 pub fn start_value(bits: u64) -> Option<Start>
     requires small { bits < 2 ^ 40 }
-    requires lawful { is_start bits ≡ true }
+    requires valid { is_start bits ≡ true }
     ensures { EventTimes.start_bits result ≡ bits }
 {
     if bits == UNDEFINED {

@@ -5,7 +5,7 @@ use Rattle.std.proofs.lemmas.Bool.{ltb-true}
 use Rattle.ts_fields.specs.Layout.{Row, Held}
 use Rattle.ts_fields.specs.Reading.{read_rows, Fails, ◌>>=◌}
 use Rattle.ts_fields.specs.Spelling.{spell_rows}
-use Rattle.ts_fields.specs.Bodies.{items_exact, read_items, items_sound, all_fit, items_fit, spell_items, read_behind}
+use Rattle.ts_fields.specs.Bodies.{items_exact, read_items, items_sound, all_fit, items_fit, spell_items, read_after}
 use Rattle.ts_fields.specs.Fitting.{fits}
 use Rattle.ts_fields.specs.SoundRows.{are_exact, widths, is_open}
 use Rattle.std.proofs.lemmas.Option.{same_Some}
@@ -87,13 +87,13 @@ items_take (suc most) rs (b ∷ bs) items exact is =
     let others = items_take most rs x.1 more exact had in
     rw (← items_is) (one.0 ∙ ap (λ l. spell_rows rs x.0 ++ l) others.0, rw (one.1, others.1) refl)))
 
-pub behind_takes : (i : Option (List ℕ × List Row)) (from : List Bool) (items : List (List Held))
-    → items_exact i ≡ true → read_behind i from ≡ Some items
+pub after_takes : (i : Option (List ℕ × List Row)) (from : List Bool) (items : List (List Held))
+    → items_exact i ≡ true → read_after i from ≡ Some items
     → (from ≡ spell_items i items) × (items_fit i items ≡ true)
-unfolding read_behind
-behind_takes None [] items exact is = let none : [] ≡ items = same_Some _ _ is in rw (← none) (refl, refl)
-behind_takes None (b ∷ bs) items exact is = cc
-behind_takes (Some i) from items exact is = items_take (length from) i.1 from items exact is
+unfolding read_after
+after_takes None [] items exact is = let none : [] ≡ items = same_Some _ _ is in rw (← none) (refl, refl)
+after_takes None (b ∷ bs) items exact is = cc
+after_takes (Some i) from items exact is = items_take (length from) i.1 from items exact is
 
 items_none : (most : ℕ) (rs : List Row) → read_items most rs [] ≡ Some []
 unfolding read_items
@@ -126,19 +126,19 @@ items_again most rs (item ∷ items) fit sound long =
     ∙ items_first (most - 1) rs (spell_rows rs item ++ flat_map (spell_rows rs) items) item (flat_map (spell_rows rs) items) (omega (arith, one.1)) read
     ∙ rw (items_again (most - 1) rs items parts.1 sound (omega (arith, one.1))) refl
 
-pub behind_again : (i : Option (List ℕ × List Row)) (items : List (List Held)) → items_fit i items ≡ true
-    → IsTrue (items_sound i) → read_behind i (spell_items i items) ≡ Some items
-unfolding read_behind
-behind_again None [] fit sound = refl
-behind_again None (item ∷ items) fit sound = cc
-behind_again (Some i) items fit sound = let least : length (flat_map (spell_rows i.1) items) ≤ length (flat_map (spell_rows i.1) items) = omega arith in items_again (length (flat_map (spell_rows i.1) items)) i.1 items fit sound least
+pub after_again : (i : Option (List ℕ × List Row)) (items : List (List Held)) → items_fit i items ≡ true
+    → IsTrue (items_sound i) → read_after i (spell_items i items) ≡ Some items
+unfolding read_after
+after_again None [] fit sound = refl
+after_again None (item ∷ items) fit sound = cc
+after_again (Some i) items fit sound = let least : length (flat_map (spell_rows i.1) items) ≤ length (flat_map (spell_rows i.1) items) = omega arith in items_again (length (flat_map (spell_rows i.1) items)) i.1 items fit sound least
 
-pub nothing_behind : (i : Option (List ℕ × List Row)) (items : List (List Held)) (goes : Bool)
+pub nothing_after : (i : Option (List ℕ × List Row)) (items : List (List Held)) (goes : Bool)
     → items_fit i items ≡ true → IsTrue (is_none i || not goes) → goes ≡ true → spell_items i items ≡ []
-nothing_behind None [] goes fit sound is = refl
-nothing_behind None (item ∷ items) goes fit sound is = cc
-nothing_behind (Some i) items true fit sound is = cc
-nothing_behind (Some i) items false fit sound is = cc
+nothing_after None [] goes fit sound is = refl
+nothing_after None (item ∷ items) goes fit sound is = cc
+nothing_after (Some i) items true fit sound is = cc
+nothing_after (Some i) items false fit sound is = cc
 
 items_read_fit : (most : ℕ) (rs : List Row) (from : List Bool) (items : List (List Held))
     → read_items most rs from ≡ Some items → all_fit rs items ≡ true
@@ -153,9 +153,9 @@ items_read_fit (suc most) rs (b ∷ bs) items is =
     let others = items_read_fit most rs x.1 more had in
     rw (← items_is) (rw (one.1, others) refl)))
 
-pub behind_read_fit : (i : Option (List ℕ × List Row)) (from : List Bool) (items : List (List Held))
-    → read_behind i from ≡ Some items → items_fit i items ≡ true
-unfolding read_behind
-behind_read_fit None [] items is = let none : [] ≡ items = same_Some _ _ is in rw (← none) refl
-behind_read_fit None (b ∷ bs) items is = cc
-behind_read_fit (Some i) from items is = items_read_fit (length from) i.1 from items is
+pub after_read_fit : (i : Option (List ℕ × List Row)) (from : List Bool) (items : List (List Held))
+    → read_after i from ≡ Some items → items_fit i items ≡ true
+unfolding read_after
+after_read_fit None [] items is = let none : [] ≡ items = same_Some _ _ is in rw (← none) refl
+after_read_fit None (b ∷ bs) items is = cc
+after_read_fit (Some i) from items is = items_read_fit (length from) i.1 from items is

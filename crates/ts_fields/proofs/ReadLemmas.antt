@@ -12,7 +12,7 @@ use Rattle.ts_fields.specs.declared.field.Field.{Field}
 use Rattle.ts_fields.specs.declared.field.FieldValue.{FieldValue}
 use Rattle.ts_fields.specs.declared.reader.NotRead.{NotRead}
 use Rattle.ts_fields.specs.declared.reader.NotRead.TheVariants as stops
-use Rattle.bit_rows.specs.BitRow.{field}
+use Rattle.ts_bit_rows.specs.BitRow.{field}
 use Rattle.ts_fields.specs.Bits.{number_of, bits_of}
 use Rattle.ts_fields.specs.Reading.{read_number, read_bytes, read_decimal, read_field, read_rows, Fails, ◌>>=◌}
 use Rattle.ts_fields.specs.SoundRows.{is_sound, are_sound}

@@ -55,16 +55,16 @@ read_items (suc most) rows (b ∷ bs) = do
   Some (x.0 ∷ more)
 
 -- what follows the fields: items, or nothing
-unfoldable pub read_behind : Option (List ℕ × List Row) → List Bool → Option (List (List Held))
-read_behind None [] = Some []
-read_behind None (b ∷ bs) = None
-read_behind (Some i) from = read_items (length from) i.1 from
+unfoldable pub read_after : Option (List ℕ × List Row) → List Bool → Option (List (List Held))
+read_after None [] = Some []
+read_after None (b ∷ bs) = None
+read_after (Some i) from = read_items (length from) i.1 from
 
 -- the values of a body; none where it is not of this page
 unfoldable pub read_page : Page → List Bool → Option Holding
 read_page p from = do
   head ← read_rows p.head from
-  items ← read_behind p.items head.1
+  items ← read_after p.items head.1
   Some (record { head = head.0; items = items })
 
 -- the bits of some items

@@ -25,20 +25,20 @@ pub fn read_body(alloc: Global, layout: &Layout, body: &[u8]) -> Result<Body, No
     ensures fits { IfOk result (λ b. page_fits (page layout.now) (body_held b) ≡ true) }
 {
     let (head, rest) = read_rows(alloc, layout.head, BitReader::of(body))?;
-    let items = read_behind(alloc, layout.items, rest)?;
+    let items = read_after(alloc, layout.items, rest)?;
     Ok(Body { head, items })
 }
 
 /// Reads what follows the fields: items, or nothing.
-#[tactic(auto, unfolding(crate::specs::Bodies::read_behind))]
-fn read_behind<'a>(
+#[tactic(auto, unfolding(crate::specs::Bodies::read_after))]
+fn read_after<'a>(
     alloc: Global,
     items: Option<ItemLayout>,
     from: BitReader<'a>,
 ) -> Result<Vec<Item>, NotRead>
     requires { IsTrue (items_sound (option_map item_page items)) }
     ensures { Gives (λ v. map item_held v.items) result
-        (Bodies.read_behind (option_map item_page items) from.entry) }
+        (Bodies.read_after (option_map item_page items) from.entry) }
 {
     match items {
         Some(layout) => read_items(alloc, layout.rows, from),
@@ -71,12 +71,12 @@ pub fn write_body(alloc: Global, layout: &Layout, body: &Body) -> Result<Vec<u8>
 {
     let mut out = BitWriter::new(alloc);
     write_rows(&mut out, layout.head, &body.head)?;
-    write_behind(&mut out, layout.items, &body.items)?;
+    write_after(&mut out, layout.items, &body.items)?;
     Ok(out.into_bytes())
 }
 
 /// Writes the items that follow the fields, where the page has items.
-fn write_behind(
+fn write_after(
     out: &mut BitWriter,
     layout: Option<ItemLayout>,
     items: &[Item],

@@ -4,7 +4,7 @@ use Rattle.std.specs.Prelude.{codes, Err}
 use Rattle.serde_json.specs.Data.{member, no_members, object, string}
 use Rattle.serde_json.specs.Written.{compact_text}
 use Rattle.ts_fields.specs.Bits.{bits, number_of}
-use Rattle.ts_fields.specs.Bodies.{read_page, read_behind, read_items}
+use Rattle.ts_fields.specs.Bodies.{read_page, read_after, read_items}
 use Rattle.ts_fields.specs.Reading.{read_number, read_bytes, read_decimal, read_rest, read_field, read_rows}
 use Rattle.ts_jtree.specs.declared.fault.JsonKind.TheVariants.{Missing, UnknownKey}
 use Rattle.ts_jtree.specs.Attributes.{attribute_of, number_attribute, read_attributes}
@@ -17,19 +17,19 @@ use Rattle.ts_json_descr.specs.DescrReading.{descr_read, read_holding, read_type
 -- 346.0000 MHz, 64-QAM, 6.8750 Msymbol/s
 cable-row : compact_text (descr_shown (record { tag = 0x44; body = 0x03 ∷ 0x46 ∷ 0x00 ∷ 0x00 ∷ 0xFF ∷ 0xF2 ∷ 0x03 ∷ 0x00 ∷ 0x68 ∷ 0x75 ∷ 0x0F ∷ [] }))
     ≡ codes "{\"#name\":\"cable_delivery_system_descriptor\",\"FEC_inner\":15,\"FEC_outer\":2,\"frequency\":3460000,\"modulation\":3,\"symbol_rate\":68750}"
-unfolding bits number_of read_number read_bytes read_decimal read_rest read_field read_rows read_page read_behind shown_on_literals
+unfolding bits number_of read_number read_bytes read_decimal read_rest read_field read_rows read_page read_after shown_on_literals
 cable-row = refl
 
 -- the same with a digit ten, which is not a digit
 generic-row : compact_text (descr_shown (record { tag = 0x44; body = 0x03 ∷ 0x0A ∷ 0x00 ∷ 0x00 ∷ 0xFF ∷ 0xF2 ∷ 0x03 ∷ 0x00 ∷ 0x68 ∷ 0x75 ∷ 0x0F ∷ [] }))
     ≡ codes "{\"#name\":\"generic_descriptor\",\"data\":\"030a0000fff2030068750f\",\"tag\":68}"
-unfolding bits number_of read_number read_bytes read_decimal read_rest read_field read_rows read_page read_behind shown_on_literals
+unfolding bits number_of read_number read_bytes read_decimal read_rest read_field read_rows read_page read_after shown_on_literals
 generic-row = refl
 
 -- one item of subtitles
 subtitling-row : compact_text (descr_shown (record { tag = 0x59; body = 0x66 ∷ 0x72 ∷ 0x61 ∷ 0x10 ∷ 0x00 ∷ 0x01 ∷ 0x00 ∷ 0x02 ∷ [] }))
     ≡ codes "{\"#name\":\"subtitling_descriptor\",\"#nodes\":[{\"#name\":\"subtitling\",\"ancillary_page_id\":2,\"composition_page_id\":1,\"language_code\":\"fra\",\"subtitling_type\":16}]}"
-unfolding bits number_of read_number read_bytes read_decimal read_rest read_field read_rows read_page read_behind read_items shown_on_literals
+unfolding bits number_of read_number read_bytes read_decimal read_rest read_field read_rows read_page read_after read_items shown_on_literals
 subtitling-row = refl
 
 -- a name that no descriptor has

@@ -15,7 +15,7 @@ use Rattle.ts_jtree.specs.Elements.{nodes_key}
 use Rattle.ts_jtree.specs.Faults.{IsRefusal, Stops}
 use Rattle.ts_json_descr.specs.DescrReading.{descr_read}
 use Rattle.ts_table_rows.specs.BodySpelling.{bytes_of}
-use Rattle.ts_json_tables.specs.TableReading.{count_of, is_lawful_count, read_descr, sections_counted}
+use Rattle.ts_json_tables.specs.TableReading.{count_of, is_valid_count, read_descr, sections_counted}
 use Rattle.ts_json_tables.proofs.StepLemmas.{refusal_stops}
 
 pub all_bytes : (row : List ℕ) → All (λ x. x < 256) row → are_bytes row ≡ true
@@ -41,10 +41,10 @@ count_view : (vs : List Value) → count_of (items_view vs) ≡ length vs
 count_view [] = refl
 count_view (v ∷ vs) = omega (arith, count_view vs)
 
-pub counted_out : (eit : Bool) (vs : List Value) (refusal : ReadRefusal) → is_lawful_count eit (length vs) ≡ false
+pub counted_out : (eit : Bool) (vs : List Value) (refusal : ReadRefusal) → is_valid_count eit (length vs) ≡ false
     → IsRefusal refusal nodes_key OutOfRange → Stops refusal (sections_counted eit (items_view vs))
 counted_out eit vs refusal is told = rw (count_view vs, is) (refusal_stops Items refusal _ _ told)
 
-pub counted_in : (eit : Bool) (vs : List Value) → is_lawful_count eit (length vs) ≡ true
+pub counted_in : (eit : Bool) (vs : List Value) → is_valid_count eit (length vs) ≡ true
     → sections_counted eit (items_view vs) ≡ Ok (items_view vs)
 counted_in eit vs is = rw (count_view vs, is) refl

@@ -16,10 +16,10 @@ items_more : (x : Thing) (xs : List Thing) → items_in (x ∷ xs) ≡ items_in 
 items_more (own_thing d) xs = refl
 items_more (item_thing x) xs = refl
 
-pub behind_more : (own own2 : List TaggedBody) (items items2 : List ItemHolding) (x : Thing)
+pub after_more : (own own2 : List TaggedBody) (items items2 : List ItemHolding) (x : Thing)
     → own2 ≡ own ++ owns_in (x ∷ []) → items2 ≡ items ++ items_in (x ∷ []) → (xs : List Thing)
     → behind own items (x ∷ xs) ≡ behind own2 items2 xs
-behind_more own own2 items items2 x own_is items_is xs =
+after_more own own2 items items2 x own_is items_is xs =
     let a : own ++ owns_in (x ∷ xs) ≡ own2 ++ owns_in xs =
     ap (λ l. own ++ l) (owns_more x xs) ∙ sym (append_assoc own (owns_in (x ∷ [])) (owns_in xs))
     ∙ ap (λ l. l ++ owns_in xs) (sym own_is) in
@@ -28,5 +28,5 @@ behind_more own own2 items items2 x own_is items_is xs =
     ∙ ap (λ l. l ++ items_in xs) (sym items_is) in
     ap (λ l. (l, items ++ items_in (x ∷ xs))) a ∙ ap (λ l. (own2 ++ owns_in xs, l)) b
 
-pub behind_none : (own : List TaggedBody) (items : List ItemHolding) → behind own items [] ≡ (own, items)
-behind_none own items = ap (λ l. (l, items ++ [])) (append-nil own) ∙ ap (λ l. (own, l)) (append-nil items)
+pub after_none : (own : List TaggedBody) (items : List ItemHolding) → behind own items [] ≡ (own, items)
+after_none own items = ap (λ l. (l, items ++ [])) (append-nil own) ∙ ap (λ l. (own, l)) (append-nil items)

@@ -11,7 +11,7 @@ use Rattle.ts_json_tables.proofs.StepLemmas.{both}
 
 pub record Parts (p : TablePage) (t : TableHolding) : Type 0 where
   pub id : has_id p.ids t.head.table_id ≡ true
-  pub lawful_id : t.head.table_id < 255
+  pub valid_id : t.head.table_id < 255
   pub extension : t.head.extension < 65536
   pub version : t.head.version < 32
   pub numbers : numbers_fit p.keeps_numbers t.head.numbers ≡ true
@@ -34,7 +34,7 @@ fit_parts p t fit =
     let h = both (items_fit p.items t.body.items) (is_some (zeros_from p.one_zero false t.body.items)) g.1 in
     record {
       id = a.0;
-      lawful_id = ltb-true t.head.table_id 255 b.0;
+      valid_id = ltb-true t.head.table_id 255 b.0;
       extension = ltb-true t.head.extension 65536 c.0;
       version = ltb-true t.head.version 32 d.0;
       numbers = d.1;

@@ -5,7 +5,7 @@ use Rattle.std.specs.List.{list_all}
 use Rattle.std.proofs.lemmas.List.{get_or-map, length-map}
 use Rattle.std.proofs.lemmas.List.Elements.{All-get_or}
 use Rattle.ts_fields.specs.Fitting.{are_bytes}
-use Rattle.ts_section.specs.LawfulSection.{IsSection}
+use Rattle.ts_section.specs.ValidSection.{IsSection}
 use Rattle.ts_section.specs.SectionFields.{body_of, current_of, extension_of, is_long, last_number_of, number_of, table_id_of, version_of}
 use Rattle.ts_section.specs.SectionRun.{IsTableRun}
 use Rattle.ts_table_rows.specs.RunReading.{FirstBroken, read_run}
@@ -15,23 +15,23 @@ use Rattle.ts_table_rows.specs.declared.fault.TableRefusal.{TableRefusal}
 use Rattle.ts_json_tables.specs.ElementRows.{is_eit_id}
 use Rattle.ts_json_tables.specs.HeldTables.{LongHolding, TableValue, laid, long, short}
 use Rattle.ts_json_tables.specs.KnownPages.{page_with_id}
-use Rattle.ts_json_tables.specs.LawfulTables.{IsOfBytes, IsTable}
+use Rattle.ts_json_tables.specs.ValidTables.{IsOfBytes, IsTable}
 use Rattle.ts_json_tables.specs.RunTables.{bytes_table, long_of, long_sections, numbers_used, read_or_bytes, sections_of_table, short_of, table_by, table_of_run}
 use Rattle.ts_json_tables.specs.ToldTables.{IsKept, TellsTable, laid_or_long, long_by_page, told_again}
 use Rattle.ts_json_tables.proofs.MadeBodies.{Spelled}
-use Rattle.ts_json_tables.proofs.MadeSections.{MadeLawful, long_size}
+use Rattle.ts_json_tables.proofs.MadeSections.{MadeValid, long_size}
 use Rattle.ts_json_tables.proofs.OfBytesLemmas.{bodies_bytes}
-use Rattle.ts_json_tables.proofs.RunLemmas.{bytes_lawful, eit_alone, long_alone}
+use Rattle.ts_json_tables.proofs.RunLemmas.{bytes_valid, eit_alone, long_alone}
 use Rattle.ts_json_tables.proofs.RunsAlike.{Alike, alike_by, runs_alike}
-use Rattle.ts_json_tables.proofs.ToldLaid.{ShortLawful, Written, laid_told, short_told}
+use Rattle.ts_json_tables.proofs.ToldLaid.{ShortValid, Written, laid_told, short_told}
 use Rattle.ts_json_tables.proofs.ToldLong.{LongParts, long_at, long_count, long_parts, long_told}
 
 -- what the layers below ensure
 pub record TellLaws : Type 0 where
   pub written : Written
   pub spelled : Spelled
-  pub long_made : MadeLawful
-  pub short_made : ShortLawful
+  pub long_made : MadeValid
+  pub short_made : ShortValid
 
 pub told : TellLaws → (t : TableValue) (ss : List (List ℕ)) → IsTable t → IsOfBytes t → sections_of_table t ≡ Ok ss → TellsTable (told_again t) ss
 told laws (laid p t) ss is well made = laid_told laws.written laws.spelled laws.long_made p t ss is well made
@@ -89,14 +89,14 @@ run_at s ss form (inr members) k inside =
       last = rw eit (here.same_last ∙ last);
     }
 
-alike_at : MadeLawful → (s : List ℕ) (ss : List (List ℕ)) (parts : LongParts (long_of s (s ∷ ss))) → list_all are_bytes (map body_of (s ∷ ss)) ≡ true → is_long s ≡ true → IsTableRun (s ∷ ss)
+alike_at : MadeValid → (s : List ℕ) (ss : List (List ℕ)) (parts : LongParts (long_of s (s ∷ ss))) → list_all are_bytes (map body_of (s ∷ ss)) ≡ true → is_long s ≡ true → IsTableRun (s ∷ ss)
     → All (λ b. IsSection b) (s ∷ ss) → (k : ℕ) → k < length (s ∷ ss) → Alike (get_or (long_sections (long_of s (s ∷ ss))) k []) (get_or (s ∷ ss) k [])
 alike_at law s ss parts bytes form whole all k inside =
     let l : LongHolding = long_of s (s ∷ ss) in
     let count : length (map body_of (s ∷ ss)) ≡ length (s ∷ ss) = length-map (s ∷ ss) body_of in
     let old = run_at s ss form whole k inside in
     let new = long_at law l parts bytes k (omega (arith, inside, count)) in
-    let lawful = All-get_or (λ b. IsSection b) (s ∷ ss) k [] inside all in
+    let valid = All-get_or (λ b. IsSection b) (s ∷ ss) k [] inside all in
     let bodies : get_or (map body_of (s ∷ ss)) k [] ≡ body_of (get_or (s ∷ ss) k []) = get_or-map body_of (s ∷ ss) k [] [] inside in
     let body = new.same_body ∙ bodies in
     let used : numbers_used l ≡ used_by (is_eit_id (table_id_of s)) (number_of s, last_number_of s) (length (s ∷ ss)) =
@@ -109,7 +109,7 @@ alike_at law s ss parts bytes form whole all k inside =
       current = ap (λ f. f.current) new.same_head ∙ sym old.current;
       number = ap (λ f. f.number) new.same_head ∙ ap (λ n. n.0 + k) used ∙ sym old.number;
       last = ap (λ f. f.last) new.same_head ∙ ap (λ n. n.1) used ∙ sym old.last;
-      size = long_size (get_or (long_sections l) k []) new.lawful new.long ∙ ap (λ b. 9 + length b) body ∙ sym (long_size (get_or (s ∷ ss) k []) lawful old.form);
+      size = long_size (get_or (long_sections l) k []) new.valid new.long ∙ ap (λ b. 9 + length b) body ∙ sym (long_size (get_or (s ∷ ss) k []) valid old.form);
       body = body;
     }
   where
@@ -118,11 +118,11 @@ alike_at law s ss parts bytes form whole all k inside =
     used_is false n a b same = ap (λ c. (0, c - 1)) same
 
 -- so a page reads them alike
-long_alike : MadeLawful → (p : TablePage) (s : List ℕ) (ss : List (List ℕ)) → is_long s ≡ true → IsTableRun (s ∷ ss) → All (λ b. IsSection b) (s ∷ ss)
+long_alike : MadeValid → (p : TablePage) (s : List ℕ) (ss : List (List ℕ)) → is_long s ≡ true → IsTableRun (s ∷ ss) → All (λ b. IsSection b) (s ∷ ss)
     → read_run p (long_sections (long_of s (s ∷ ss))) ≡ read_run p (s ∷ ss)
 long_alike law p s ss form whole all =
     let l : LongHolding = long_of s (s ∷ ss) in
-    let table : IsTable (if true then long l else short (short_of s)) = subst (λ b. IsTable (if b then long l else short (short_of s))) form (bytes_lawful (s ∷ ss) whole all) in
+    let table : IsTable (if true then long l else short (short_of s)) = subst (λ b. IsTable (if b then long l else short (short_of s))) form (bytes_valid (s ∷ ss) whole all) in
     let parts = long_parts l table in
     let bytes = bodies_bytes (s ∷ ss) all in
     let count : length (long_sections l) ≡ length (s ∷ ss) = long_count l ∙ length-map (s ∷ ss) body_of in
@@ -131,7 +131,7 @@ long_alike law p s ss form whole all =
 
 -- ---- the sections of a run's table give it as it is
 
-long_kept : MadeLawful → (s : List ℕ) (ss : List (List ℕ)) (o : Option TablePage) → is_long s ≡ true → IsTableRun (s ∷ ss) → All (λ b. IsSection b) (s ∷ ss)
+long_kept : MadeValid → (s : List ℕ) (ss : List (List ℕ)) (o : Option TablePage) → is_long s ≡ true → IsTableRun (s ∷ ss) → All (λ b. IsSection b) (s ∷ ss)
     → ((p : TablePage) → o ≡ Some p → (t : TableHolding) → read_run p (s ∷ ss) ≡ Ok t → ⊥) → long_by_page o (long_of s (s ∷ ss)) ≡ long (long_of s (s ∷ ss))
 long_kept law s ss None form whole all unread = refl
 long_kept law s ss (Some p) form whole all unread =
@@ -141,7 +141,7 @@ long_kept law s ss (Some p) form whole all unread =
     by_read (Ok t) is = absurd (unread p refl t is)
     by_read (Err fault) is = refl
 
-bytes_kept : MadeLawful → (s : List ℕ) (ss : List (List ℕ)) → IsTableRun (s ∷ ss) → All (λ b. IsSection b) (s ∷ ss)
+bytes_kept : MadeValid → (s : List ℕ) (ss : List (List ℕ)) → IsTableRun (s ∷ ss) → All (λ b. IsSection b) (s ∷ ss)
     → ((p : TablePage) → page_with_id (table_id_of s) ≡ Some p → (t : TableHolding) → read_run p (s ∷ ss) ≡ Ok t → ⊥) → told_again (bytes_table (s ∷ ss)) ≡ bytes_table (s ∷ ss)
 bytes_kept law s ss whole all unread = go (is_long s) refl
   where
@@ -149,7 +149,7 @@ bytes_kept law s ss whole all unread = go (is_long s) refl
     go true form = long_kept law s ss (page_with_id (table_id_of s)) form whole all unread
     go false form = refl
 
-again_by : MadeLawful → (s : List ℕ) (ss : List (List ℕ)) (o : Option TablePage) → page_with_id (table_id_of s) ≡ o → IsTableRun (s ∷ ss) → All (λ b. IsSection b) (s ∷ ss)
+again_by : MadeValid → (s : List ℕ) (ss : List (List ℕ)) (o : Option TablePage) → page_with_id (table_id_of s) ≡ o → IsTableRun (s ∷ ss) → All (λ b. IsSection b) (s ∷ ss)
     → told_again (table_by o (s ∷ ss)) ≡ table_by o (s ∷ ss)
 again_by law s ss None at whole all = bytes_kept law s ss whole all (λ p is. absurd (never p (sym at ∙ is)))
   where
@@ -169,7 +169,7 @@ again_by law s ss (Some p) at whole all = by_read (read_run p (s ∷ ss)) refl
         bytes_kept law s ss whole all
         (λ q other t read. no_both (read_run p (s ∷ ss)) fault t is (ap (λ x. read_run x (s ∷ ss)) (same_page p q (sym at ∙ other)) ∙ read))
 
-pub run_again : MadeLawful → (run : List (List ℕ)) → IsTableRun run → All (λ b. IsSection b) run → told_again (table_of_run run) ≡ table_of_run run
+pub run_again : MadeValid → (run : List (List ℕ)) → IsTableRun run → All (λ b. IsSection b) run → told_again (table_of_run run) ≡ table_of_run run
 run_again law [] whole all = absurd whole
 run_again law (s ∷ ss) whole all = again_by law s ss (page_with_id (table_id_of s)) refl whole all
 

@@ -143,8 +143,8 @@ range_again n m apart ms id read =
     rw apart (number_again (table_id_row (n, m)) ms id told)
 
 -- the rows after those of the head
-abbrev pub rows_behind : TablePage → Bool → List Row
-rows_behind p network = p.common ++ (kept_rows p.keeps_numbers ++ (p.head ++ network_rows network))
+abbrev pub rows_after : TablePage → Bool → List Row
+rows_after p network = p.common ++ (kept_rows p.keeps_numbers ++ (p.head ++ network_rows network))
 
 pub record Facts (p : TablePage) : Type 0 where
   pub sound : IsTrue (page_sound p)
@@ -152,7 +152,7 @@ pub record Facts (p : TablePage) : Type 0 where
   pub no_short : bytes_eq p.name short_name ≡ false
   pub no_long : bytes_eq p.name long_name ≡ false
   pub shows : (network : Bool) → rows_show (element_rows p network) ≡ true
-  pub bare : (network : Bool) → plain (rows_behind p network) ≡ true
+  pub bare : (network : Bool) → plain (rows_after p network) ≡ true
   pub unknown : (ms : Members) → is_known (element_rows p false) ms network_key ≡ false
   pub items : ItemsFacts p.items
   pub zero : p.one_zero ≡ true → p.items ≡ Some entry_page
@@ -170,7 +170,7 @@ pat_facts = record {
   no_short = refl;
   no_long = refl;
   shows = λ network. elim network as (λ b. rows_show (element_rows pat_page b) ≡ true) [ true ↦ refl | false ↦ refl ];
-  bare = λ network. elim network as (λ b. plain (rows_behind pat_page b) ≡ true) [ true ↦ refl | false ↦ refl ];
+  bare = λ network. elim network as (λ b. plain (rows_after pat_page b) ≡ true) [ true ↦ refl | false ↦ refl ];
   unknown = λ ms. refl;
   items = record { shows = refl; own = refl; other = refl };
   zero = λ is. refl;
@@ -189,7 +189,7 @@ cat_facts = record {
   no_short = refl;
   no_long = refl;
   shows = λ network. elim network as (λ b. rows_show (element_rows cat_page b) ≡ true) [ true ↦ refl | false ↦ refl ];
-  bare = λ network. elim network as (λ b. plain (rows_behind cat_page b) ≡ true) [ true ↦ refl | false ↦ refl ];
+  bare = λ network. elim network as (λ b. plain (rows_after cat_page b) ≡ true) [ true ↦ refl | false ↦ refl ];
   unknown = λ ms. refl;
   items = tt;
   zero = λ is. cc;
@@ -208,7 +208,7 @@ pmt_facts = record {
   no_short = refl;
   no_long = refl;
   shows = λ network. elim network as (λ b. rows_show (element_rows pmt_page b) ≡ true) [ true ↦ refl | false ↦ refl ];
-  bare = λ network. elim network as (λ b. plain (rows_behind pmt_page b) ≡ true) [ true ↦ refl | false ↦ refl ];
+  bare = λ network. elim network as (λ b. plain (rows_after pmt_page b) ≡ true) [ true ↦ refl | false ↦ refl ];
   unknown = λ ms. refl;
   items = record { shows = refl; own = refl; other = refl };
   zero = λ is. cc;
@@ -227,7 +227,7 @@ nit_facts = record {
   no_short = refl;
   no_long = refl;
   shows = λ network. elim network as (λ b. rows_show (element_rows nit_page b) ≡ true) [ true ↦ refl | false ↦ refl ];
-  bare = λ network. elim network as (λ b. plain (rows_behind nit_page b) ≡ true) [ true ↦ refl | false ↦ refl ];
+  bare = λ network. elim network as (λ b. plain (rows_after nit_page b) ≡ true) [ true ↦ refl | false ↦ refl ];
   unknown = λ ms. refl;
   items = record { shows = refl; own = refl; other = refl };
   zero = λ is. cc;
@@ -246,7 +246,7 @@ bat_facts = record {
   no_short = refl;
   no_long = refl;
   shows = λ network. elim network as (λ b. rows_show (element_rows bat_page b) ≡ true) [ true ↦ refl | false ↦ refl ];
-  bare = λ network. elim network as (λ b. plain (rows_behind bat_page b) ≡ true) [ true ↦ refl | false ↦ refl ];
+  bare = λ network. elim network as (λ b. plain (rows_after bat_page b) ≡ true) [ true ↦ refl | false ↦ refl ];
   unknown = λ ms. refl;
   items = record { shows = refl; own = refl; other = refl };
   zero = λ is. cc;
@@ -265,7 +265,7 @@ sdt_facts = record {
   no_short = refl;
   no_long = refl;
   shows = λ network. elim network as (λ b. rows_show (element_rows sdt_page b) ≡ true) [ true ↦ refl | false ↦ refl ];
-  bare = λ network. elim network as (λ b. plain (rows_behind sdt_page b) ≡ true) [ true ↦ refl | false ↦ refl ];
+  bare = λ network. elim network as (λ b. plain (rows_after sdt_page b) ≡ true) [ true ↦ refl | false ↦ refl ];
   unknown = λ ms. refl;
   items = record { shows = refl; own = refl; other = refl };
   zero = λ is. cc;
@@ -284,7 +284,7 @@ eit_facts = record {
   no_short = refl;
   no_long = refl;
   shows = λ network. elim network as (λ b. rows_show (element_rows eit_page b) ≡ true) [ true ↦ refl | false ↦ refl ];
-  bare = λ network. elim network as (λ b. plain (rows_behind eit_page b) ≡ true) [ true ↦ refl | false ↦ refl ];
+  bare = λ network. elim network as (λ b. plain (rows_after eit_page b) ≡ true) [ true ↦ refl | false ↦ refl ];
   unknown = λ ms. refl;
   items = record { shows = refl; own = refl; other = refl };
   zero = λ is. cc;

@@ -16,8 +16,8 @@ mod RangeLemmas
 mod SectionLemmas
 mod ShowLemmas
 mod EntryLemmas
-mod LawfulLemmas
-mod LawfulEnd
+mod ValidLemmas
+mod ValidEnd
 mod RunLemmas
 mod ValueLemmas
 mod AgainLemmas

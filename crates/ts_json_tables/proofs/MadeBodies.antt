@@ -12,12 +12,12 @@ use Rattle.ts_fields.specs.Reading.{read_bytes, read_number}
 use Rattle.ts_fields.specs.Spelling.{spell_rows}
 use Rattle.ts_table_rows.specs.declared.layout.LoopForm.{LoopForm}
 use Rattle.ts_table_rows.specs.declared.layout.LoopForm.TheVariants.{Absent, Counted, ToEnd}
-use Rattle.ts_table_rows.specs.BodySpelling.{body_row, bytes_of, common_values, head_values, item_row, read_row, spell_behind, spell_counted, spell_own, spell_parts}
+use Rattle.ts_table_rows.specs.BodySpelling.{body_row, bytes_of, common_values, head_values, item_row, read_row, spell_after, spell_counted, spell_own, spell_parts}
 use Rattle.ts_table_rows.specs.Filling.{AllFit, Each, pieces, total}
 use Rattle.ts_table_rows.specs.TablePages.{ItemPage, TablePage}
 use Rattle.ts_table_rows.specs.TableSections.{Thing, above, body_rows, empty_length, first_large, item_thing, items_in, length_with, own_thing, owns_in, piece_body, plus, room_in, thing_size, things, unless_large}
 use Rattle.ts_table_rows.specs.TableValues.{BodyHolding}
-use Rattle.ts_json_tables.specs.LawfulTables.{is_payload}
+use Rattle.ts_json_tables.specs.ValidTables.{is_payload}
 
 -- what the layer below ensures of numbers and bytes that are written and read
 pub record Spelled : Type 0 where
@@ -62,9 +62,9 @@ counted_items : Spelled → (counted : Bool) (row : List ℕ) → length (if cou
 counted_items law true row = omega (arith, length-append (bits 4 15) (spell_counted row), length-append (bits 4 15) (spell_counted []), counted_length law row, counted_length law [])
 counted_items law false row = omega (arith, law.long row)
 
-behind_length : Spelled → (items : Option ItemPage) (row : List ℕ) → length (spell_behind items row) ≤ length (spell_behind items []) + 8 * length row
-behind_length law None row = omega arith
-behind_length law (Some i) row = counted_items law i.counted row
+after_length : Spelled → (items : Option ItemPage) (row : List ℕ) → length (spell_after items row) ≤ length (spell_after items []) + 8 * length row
+after_length law None row = omega arith
+after_length law (Some i) row = counted_items law i.counted row
 
 four_parts : (a b c d : List Bool) → length (a ++ (b ++ (c ++ d))) ≡ length a + length b + length c + length d
 four_parts a b c d = omega (arith, length-append a (b ++ (c ++ d)), length-append b (c ++ d), length-append c d)
@@ -75,7 +75,7 @@ unfolding spell_parts
 parts_length law p values own items =
     let a = spell_rows p.common (common_values p values) in
     let b = spell_rows p.head (head_values p values) in
-    omega (arith, four_parts a b (spell_own p.loop_form own) (spell_behind p.items items), four_parts a b (spell_own p.loop_form []) (spell_behind p.items []), own_length law p.loop_form own, behind_length law p.items items)
+    omega (arith, four_parts a b (spell_own p.loop_form own) (spell_after p.items items), four_parts a b (spell_own p.loop_form []) (spell_after p.items []), own_length law p.loop_form own, after_length law p.items items)
 
 -- ---- pieces within the room
 

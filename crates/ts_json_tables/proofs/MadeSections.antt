@@ -7,7 +7,7 @@ use Rattle.std.proofs.lemmas.List.{length-drop, length-take-le}
 use Rattle.std.proofs.lemmas.List.Elements.{All-cons, All-from_get_or, All-nil}
 use Rattle.ts_fields.specs.Fitting.{are_bytes}
 use Rattle.ts_section.specs.declared.long_head.LongHead.{LongHead}
-use Rattle.ts_section.specs.LawfulSection.{IsSection}
+use Rattle.ts_section.specs.ValidSection.{IsSection}
 use Rattle.ts_section.specs.SectionFields.{body_of, is_long, section_length_of}
 use Rattle.ts_section.specs.WrittenSection.{IsLongSectionOf, long_section}
 use Rattle.ts_table_rows.specs.declared.table.TableHead.{TableHead}
@@ -15,13 +15,13 @@ use Rattle.ts_table_rows.specs.TablePages.{TablePage}
 use Rattle.ts_table_rows.specs.TableSections as writing
 use Rattle.ts_table_rows.specs.TableSections.{head_with}
 use Rattle.ts_json_tables.specs.HeldTables.{LongHolding}
-use Rattle.ts_json_tables.specs.LawfulTables.{is_payload}
+use Rattle.ts_json_tables.specs.ValidTables.{is_payload}
 use Rattle.ts_json_tables.specs.RunTables.{long_head, numbered}
 use Rattle.ts_json_tables.proofs.StepLemmas.{both}
 
 -- what the layer below ensures of sections that are built
-abbrev pub MadeLawful : Type 0
-MadeLawful = (head : LongHead) (body : List ℕ) → head.table_id < 255 → head.extension < 65536 → head.version < 32 → head.number ≤ head.last
+abbrev pub MadeValid : Type 0
+MadeValid = (head : LongHead) (body : List ℕ) → head.table_id < 255 → head.extension < 65536 → head.version < 32 → head.number ≤ head.last
     → head.last < 256 → All (λ x. x < 256) body → length body ≤ 4084 → IsLongSectionOf head body (long_section head body)
 
 -- the sections of some bodies, each of the head with its number
@@ -54,7 +54,7 @@ small_bytes (x ∷ row) is =
     let parts = both (nat_lt x 256) (are_bytes row) is in
     All-cons (λ y. y < 256) x row (ltb-true x 256 parts.0) (small_bytes row parts.1)
 
-one_made : MadeLawful → (head : ℕ → LongHead) (last number : ℕ) (row : List ℕ) → AreHeads head last → number ≤ last → is_payload 4084 row ≡ true
+one_made : MadeValid → (head : ℕ → LongHead) (last number : ℕ) (row : List ℕ) → AreHeads head last → number ≤ last → is_payload 4084 row ≡ true
     → are_bytes row ≡ true → IsLongSectionOf (head number) row (long_section (head number) row)
 one_made law head last number row heads within small bytes =
     law (head number) row (heads.id number) (heads.extension number) (heads.version number) (omega (arith, heads.number number, heads.last number, within))
@@ -66,7 +66,7 @@ made_length head number [] = refl
 made_length head number (row ∷ rows) = ap suc (made_length head (number + 1) rows)
 
 -- the section at a place
-pub made_at : MadeLawful → (head : ℕ → LongHead) (last number : ℕ) (rows : List (List ℕ)) → AreHeads head last → number + length rows ≤ last + 1
+pub made_at : MadeValid → (head : ℕ → LongHead) (last number : ℕ) (rows : List (List ℕ)) → AreHeads head last → number + length rows ≤ last + 1
     → list_all (is_payload 4084) rows ≡ true → list_all are_bytes rows ≡ true → (k : ℕ) → k < length rows
     → IsLongSectionOf (head (number + k)) (get_or rows k []) (get_or (made_by head number rows) k [])
 unfolding made_by
@@ -83,11 +83,11 @@ made_at law head last number (row ∷ rows) heads room small bytes (suc k) insid
     subst (λ n. IsLongSectionOf (head n) (get_or rows k []) (get_or (made_by head (number + 1) rows) k [])) same
     (made_at law head last (number + 1) rows heads (omega (arith, room)) a.1 b.1 k (omega (arith, inside)))
 
-pub all_made : MadeLawful → (head : ℕ → LongHead) (last number : ℕ) (rows : List (List ℕ)) → AreHeads head last → number + length rows ≤ last + 1
+pub all_made : MadeValid → (head : ℕ → LongHead) (last number : ℕ) (rows : List (List ℕ)) → AreHeads head last → number + length rows ≤ last + 1
     → list_all (is_payload 4084) rows ≡ true → list_all are_bytes rows ≡ true → All (λ s. IsSection s) (made_by head number rows)
 all_made law head last number rows heads room small bytes =
     All-from_get_or (λ s. IsSection s) (made_by head number rows) []
-    (λ k inside. (made_at law head last number rows heads room small bytes k (omega (arith, inside, made_length head number rows))).lawful)
+    (λ k inside. (made_at law head last number rows heads room small bytes k (omega (arith, inside, made_length head number rows))).valid)
 
 -- a section of the long form has nine bytes in addition to its body
 pub long_size : (b : List ℕ) → IsSection b → is_long b ≡ true → section_length_of b ≡ 9 + length (body_of b)

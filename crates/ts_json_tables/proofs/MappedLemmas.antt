@@ -30,9 +30,9 @@ one_more_of view g h old new x xs i a inside same is made so_far =
     ∙ ap (map g) (next_of h xs i a (h a) inside same refl)
 
 -- a test that all things from a place on pass is passed by the one at the place, and by those behind it
-pub here_and_behind : {A B : Type 0} (t : B → Bool) (h : A → B) (xs : List A) (i : ℕ) (a : A) → i < length xs
+pub here_and_after : {A B : Type 0} (t : B → Bool) (h : A → B) (xs : List A) (i : ℕ) (a : A) → i < length xs
     → a ≡ get_or xs i a → list_all t (map h (drop i xs)) ≡ true
     → (t (h a) ≡ true) × (list_all t (map h (drop (i + 1) xs)) ≡ true)
-here_and_behind t h xs i a inside same all =
+here_and_after t h xs i a inside same all =
     let parts = both (t (h (get_or xs i a))) (list_all t (map h (drop (i + 1) xs))) (rw (drop_more xs i a inside) at all) in
     (ap (λ y. t (h y)) same ∙ parts.0, parts.1)

@@ -7,7 +7,7 @@ use Rattle.std.proofs.lemmas.List.Elements.{All-append, All-cons, All-drop, All-
 use Rattle.ts_bits.specs.TaggedBody.{IsDescriptor}
 use Rattle.ts_fields.specs.Fitting.{are_bytes}
 use Rattle.ts_table_pages.specs.PatEntries.{is_network, ordered}
-use Rattle.ts_section.specs.LawfulSection.{IsSection}
+use Rattle.ts_section.specs.ValidSection.{IsSection}
 use Rattle.ts_section.specs.SectionFields.{body_of, is_long, table_id_of}
 use Rattle.ts_table_rows.specs.RunReading.{FirstBroken, read_run}
 use Rattle.ts_table_rows.specs.TableFitting.{DescriptorsFit}
@@ -15,7 +15,7 @@ use Rattle.ts_table_rows.specs.TablePages.{TablePage}
 use Rattle.ts_table_rows.specs.TableValues.{ItemHolding, TableHolding}
 use Rattle.ts_json_tables.specs.HeldTables.{long, short}
 use Rattle.ts_json_tables.specs.KnownPages.{page_with_id}
-use Rattle.ts_json_tables.specs.LawfulTables.{IsOfBytes}
+use Rattle.ts_json_tables.specs.ValidTables.{IsOfBytes}
 use Rattle.ts_json_tables.specs.RunTables.{bytes_table, long_of, read_or_bytes, settled, short_of, table_by, table_of_run}
 use Rattle.ts_json_tables.proofs.ByteLemmas.{all_bytes}
 use Rattle.ts_json_tables.proofs.OfBytesReading.{BytesRead, run_described}
@@ -23,24 +23,24 @@ use Rattle.ts_json_tables.proofs.OfBytesReading.{BytesRead, run_described}
 -- ---- bodies
 
 body_bytes : (s : List ℕ) → IsSection s → are_bytes (body_of s) ≡ true
-body_bytes s lawful =
+body_bytes s valid =
     cond_both (is_long s) (drop 8 (take (length s - 4) s)) (drop 3 s) (λ row. are_bytes row ≡ true)
     (λ long. all_bytes (drop 8 (take (length s - 4) s))
-    (All-drop (λ x. x < 256) 8 (take (length s - 4) s) (All-take (λ x. x < 256) (length s - 4) s lawful.bytes)))
-    (λ short. all_bytes (drop 3 s) (All-drop (λ x. x < 256) 3 s lawful.bytes))
+    (All-drop (λ x. x < 256) 8 (take (length s - 4) s) (All-take (λ x. x < 256) (length s - 4) s valid.bytes)))
+    (λ short. all_bytes (drop 3 s) (All-drop (λ x. x < 256) 3 s valid.bytes))
 
 pub bodies_bytes : (run : List (List ℕ)) → All (λ s. IsSection s) run → list_all are_bytes (map body_of run) ≡ true
-bodies_bytes [] lawful = refl
-bodies_bytes (s ∷ ss) lawful =
+bodies_bytes [] valid = refl
+bodies_bytes (s ∷ ss) valid =
     and_from (are_bytes (body_of s)) (list_all are_bytes (map body_of ss))
-    (body_bytes s (All-head (λ x. IsSection x) s ss lawful)) (bodies_bytes ss (All-tail (λ x. IsSection x) s ss lawful))
+    (body_bytes s (All-head (λ x. IsSection x) s ss valid)) (bodies_bytes ss (All-tail (λ x. IsSection x) s ss valid))
 
 run_bytes : (run : List (List ℕ)) → All (λ s. IsSection s) run → IsOfBytes (bytes_table run)
-run_bytes [] lawful = refl
-run_bytes (s ∷ ss) lawful =
+run_bytes [] valid = refl
+run_bytes (s ∷ ss) valid =
     cond_both (is_long s) (long (long_of s (s ∷ ss))) (short (short_of s)) IsOfBytes
-    (λ is. bodies_bytes (s ∷ ss) lawful)
-    (λ is. body_bytes s (All-head (λ x. IsSection x) s ss lawful))
+    (λ is. bodies_bytes (s ∷ ss) valid)
+    (λ is. body_bytes s (All-head (λ x. IsSection x) s ss valid))
 
 -- ---- tables of a page
 
@@ -69,13 +69,13 @@ settled_described p t fit = record {
 
 by_reading : (p : TablePage) (r : Result TableHolding FirstBroken) (run : List (List ℕ)) → All (λ s. IsSection s) run
     → ((t : TableHolding) → r ≡ Ok t → DescriptorsFit t.body) → IsOfBytes (read_or_bytes p r run)
-by_reading p (Ok t) run lawful described = settled_described p t (described t refl)
-by_reading p (Err fault) run lawful described = run_bytes run lawful
+by_reading p (Ok t) run valid described = settled_described p t (described t refl)
+by_reading p (Err fault) run valid described = run_bytes run valid
 
 by_page : BytesRead → (o : Option TablePage) (run : List (List ℕ)) → All (λ s. IsSection s) run → IsOfBytes (table_by o run)
-by_page law None run lawful = run_bytes run lawful
-by_page law (Some p) run lawful = by_reading p (read_run p run) run lawful (run_described law p run)
+by_page law None run valid = run_bytes run valid
+by_page law (Some p) run valid = by_reading p (read_run p run) run valid (run_described law p run)
 
 pub run_of_bytes : BytesRead → (run : List (List ℕ)) → All (λ s. IsSection s) run → IsOfBytes (table_of_run run)
-run_of_bytes law [] lawful = refl
-run_of_bytes law (s ∷ ss) lawful = by_page law (page_with_id (table_id_of s)) (s ∷ ss) lawful
+run_of_bytes law [] valid = refl
+run_of_bytes law (s ∷ ss) valid = by_page law (page_with_id (table_id_of s)) (s ∷ ss) valid

@@ -17,7 +17,7 @@ use Rattle.ts_table_rows.specs.declared.fault.TableRule.TheVariants.{Short, Loop
 use Rattle.ts_table_rows.specs.declared.layout.LoopForm.{LoopForm}
 use Rattle.ts_table_rows.specs.declared.layout.LoopForm.TheVariants.{Absent, Counted, ToEnd}
 use Rattle.ts_table_rows.specs.declared.table.TableHead.{TableHead}
-use Rattle.ts_table_rows.specs.BodyReading.{Fault, Seen, ◌>>=◌, count_zero, nothing_left, or_broken, or_cut, read_behind, read_body, read_counted, read_counted_items, read_counted_loop, read_described, read_fields, read_heading, read_item, read_items, read_last_loop, read_loop, read_next}
+use Rattle.ts_table_rows.specs.BodyReading.{Fault, Seen, ◌>>=◌, count_zero, nothing_left, or_broken, or_cut, read_after, read_body, read_counted, read_counted_items, read_counted_loop, read_described, read_fields, read_heading, read_item, read_items, read_last_loop, read_loop, read_next}
 use Rattle.ts_table_rows.specs.RunReading as run
 use Rattle.ts_table_rows.specs.RunReading.{FirstBroken, in_section, read_by, read_run, read_section, read_sections, table_head, too_many, unseen}
 use Rattle.ts_table_rows.specs.TableFitting.{DescriptorsFit}
@@ -176,13 +176,13 @@ counted_items_described law one_zero i seen from y is =
     subst (λ z. AllDescribed z.0) (same_ok _ _ joins)
     (items_described law (length (bits_of row.0)) one_zero i seen (length row.1) (bits_of row.0) items d)))))
 
-behind_described : BytesRead → (one_zero : Bool) (i : Option ItemPage) (seen : Bool) (from : List Bool) (y : List ItemHolding × Bool)
-    → read_behind one_zero i seen from ≡ Ok y → AllDescribed y.0
-unfolding read_behind
-behind_described law one_zero None seen from y is =
+after_described : BytesRead → (one_zero : Bool) (i : Option ItemPage) (seen : Bool) (from : List Bool) (y : List ItemHolding × Bool)
+    → read_after one_zero i seen from ≡ Ok y → AllDescribed y.0
+unfolding read_after
+after_described law one_zero None seen from y is =
     then_ok (nothing_left (length from)) _ y is (λ none a joins.
     subst (λ z. AllDescribed z.0) (same_ok _ _ joins) (All-nil (λ x. AllDescriptors x.descriptors)))
-behind_described law one_zero (Some i) seen from y is =
+after_described law one_zero (Some i) seen from y is =
     cond_both i.counted _ _ (λ r. r ≡ Ok y → AllDescribed y.0)
     (λ counted read. counted_items_described law one_zero i seen from y read)
     (λ uncounted read. items_described law (length from) one_zero i seen 0 from y read) is
@@ -194,10 +194,10 @@ unfolding read_body
 body_described law p seen from y is =
     then_ok (read_heading p seen.first from) _ y is (λ heading a later.
     then_ok (read_loop p.loop_form heading.2) _ y later (λ own b last.
-    then_ok (read_behind p.one_zero p.items seen.zero own.1) _ y last (λ items d joins.
+    then_ok (read_after p.one_zero p.items seen.zero own.1) _ y last (λ items d joins.
     subst (λ z. DescriptorsFit z.0) (same_ok _ _ joins) (record {
       own = loop_described law p.loop_form heading.2 own b;
-      items = behind_described law p.one_zero p.items seen.zero own.1 items d;
+      items = after_described law p.one_zero p.items seen.zero own.1 items d;
     }))))
 
 placed : {A : Type 0} (section size : ℕ) (r : Result A Fault) (y : A) → in_section section size r ≡ Ok y → r ≡ Ok y

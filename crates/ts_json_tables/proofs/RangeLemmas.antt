@@ -9,7 +9,7 @@ use Rattle.ts_table_rows.specs.TablePages.{TablePage, has_id}
 use Rattle.ts_table_rows.specs.TableValues.{TableHolding}
 use Rattle.ts_json_tables.specs.ElementRows.{element_rows, extension_rows, id_rows, table_id_row}
 use Rattle.ts_json_tables.specs.TableElements.{element_values, extension_values, id_values, kept_values, network_values}
-use Rattle.ts_json_tables.proofs.KnownLemmas.{or_no, rows_behind}
+use Rattle.ts_json_tables.proofs.KnownLemmas.{or_no, rows_after}
 use Rattle.ts_json_tables.proofs.RowLemmas.{plain, plain_append, plain_within}
 
 -- a table_id is in the range of its row, if it has one
@@ -33,11 +33,11 @@ extension_plain (c ∷ cs) = refl
 
 -- for a table whose fields after the head have no ranges
 pub element_within : (p : TablePage) (t : TableHolding) (network : Bool) → has_id p.ids t.head.table_id ≡ true
-    → plain (rows_behind p network) ≡ true → are_within (element_rows p network) (element_values p t) ≡ true
+    → plain (rows_after p network) ≡ true → are_within (element_rows p network) (element_values p t) ≡ true
 unfolding are_within
 element_within p t network has bare =
     let first = extension_values p.extension t.head.extension in
     let rest = common_values p t.body.values ++ (kept_values t.head.numbers ++ (head_values p t.body.values ++ network_values p.one_zero t.body.items)) in
-    id_within p.ids t.head.table_id (extension_rows p.extension) (rows_behind p network) first rest has
-    (plain_within (extension_rows p.extension ++ rows_behind p network) (first ++ rest)
-    (plain_append (extension_rows p.extension) (rows_behind p network) (extension_plain p.extension) bare))
+    id_within p.ids t.head.table_id (extension_rows p.extension) (rows_after p network) first rest has
+    (plain_within (extension_rows p.extension ++ rows_after p network) (first ++ rest)
+    (plain_append (extension_rows p.extension) (rows_after p network) (extension_plain p.extension) bare))

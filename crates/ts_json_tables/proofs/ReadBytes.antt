@@ -33,10 +33,10 @@ use Rattle.ts_json_tables.specs.ElementRows.{element_rows, long_name, long_rows,
 use Rattle.ts_json_tables.specs.HeadReading.{names_eit, names_network, only_bytes, read_bytes, read_heading, read_number, read_truth}
 use Rattle.ts_json_tables.specs.HeldTables.{TableValue, laid}
 use Rattle.ts_json_tables.specs.KnownPages.{page_named}
-use Rattle.ts_json_tables.specs.LawfulTables.{IsOfBytes, IsTable}
+use Rattle.ts_json_tables.specs.ValidTables.{IsOfBytes, IsTable}
 use Rattle.ts_json_tables.specs.TableReading.{has_own, holding_of, parted, read_by_name, read_child, read_descr, read_described, read_each, read_item, read_laid, read_long, read_long_head, read_named, read_own, read_section, read_short, sections_counted, table_read}
-use Rattle.ts_json_tables.proofs.LawfulEnd.{name_lawful}
-use Rattle.ts_json_tables.proofs.LawfulLemmas.{data_small, first_of}
+use Rattle.ts_json_tables.proofs.ValidEnd.{name_valid}
+use Rattle.ts_json_tables.proofs.ValidLemmas.{data_small, first_of}
 use Rattle.ts_json_tables.proofs.MadeBodies.{Spelled, bytes_length}
 use Rattle.ts_json_tables.proofs.MadeSections.{small_bytes}
 use Rattle.ts_json_tables.proofs.NumberLemmas.{number_small}
@@ -349,8 +349,8 @@ named_bytes law name ms t is = go (bytes_eq name short_name) (bytes_eq name long
     go false true read = long_bytes ms t read
     go false false read = typed (page_named name) read
 
-pub read_lawful : Spelled → (value : Data) (t : TableValue) → table_read value ≡ Ok t → IsTable t × IsOfBytes t
+pub read_valid : Spelled → (value : Data) (t : TableValue) → table_read value ≡ Ok t → IsTable t × IsOfBytes t
 unfolding table_read
-read_lawful law value t is =
+read_valid law value t is =
     then_ok (members_of value) _ t is (λ ms a1 b1.
-    then_ok (name_of ms) _ t b1 (λ name a2 b2. (name_lawful name ms t b2, named_bytes law name ms t b2)))
+    then_ok (name_of ms) _ t b1 (λ name a2 b2. (name_valid name ms t b2, named_bytes law name ms t b2)))

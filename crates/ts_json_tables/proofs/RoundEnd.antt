@@ -23,16 +23,16 @@ use Rattle.ts_table_rows.specs.TableValues.{ItemHolding, TableHolding}
 use Rattle.ts_json_tables.specs.ElementRows.{current_row, element_rows, extension_row, extension_rows, first_rows, id_rows, network_key, is_eit_id, kept_rows, long_name, long_rows, network_rows, payload_row, private_row, section_name, section_rows, short_name, short_rows, table_id_row, version_row}
 use Rattle.ts_json_tables.specs.HeadReading.{names_eit, names_network, read_bytes, read_heading, read_network}
 use Rattle.ts_json_tables.specs.HeldTables.{LongHolding, ShortHolding, TableValue, laid, long, short}
-use Rattle.ts_json_tables.specs.LawfulTables.{IsLaid, IsOfBytes, IsTable, is_payload, is_short, numbers_kept}
-use Rattle.ts_json_tables.specs.LawfulTables as lawful
+use Rattle.ts_json_tables.specs.ValidTables.{IsLaid, IsOfBytes, IsTable, is_payload, is_short, numbers_kept}
+use Rattle.ts_json_tables.specs.ValidTables as valid
 use Rattle.ts_json_tables.specs.TableElements.{begins_with_zero, children_shown, element_values, extension_values, first_values, id_values, kept_values, long_values, network_values, section_shown, short_values, shown_items, table_shown, truth}
-use Rattle.ts_json_tables.specs.TableReading.{has_own, is_lawful_count, kept_or_none, read_laid, read_long, read_long_head, read_section, read_short, sections_counted, table_read, with_payloads}
+use Rattle.ts_json_tables.specs.TableReading.{has_own, is_valid_count, kept_or_none, read_laid, read_long, read_long_head, read_section, read_short, sections_counted, table_read, with_payloads}
 use Rattle.ts_json_tables.proofs.AgainLemmas.{AllRead, Laws, each_read}
 use Rattle.ts_json_tables.proofs.ByteLemmas.{count_list}
 use Rattle.ts_json_tables.proofs.EntryLemmas.{begins_not}
 use Rattle.ts_json_tables.proofs.FitLemmas.{fit_parts}
 use Rattle.ts_json_tables.proofs.KnownLemmas.{Facts, named_facts}
-use Rattle.ts_json_tables.proofs.LawfulLemmas.{eit_same}
+use Rattle.ts_json_tables.proofs.ValidLemmas.{eit_same}
 use Rattle.ts_json_tables.proofs.RangeLemmas.{element_within}
 use Rattle.ts_json_tables.proofs.RoundHead.{Network, extension_again, key_absent, kept_again, network_again, network_of, pid_there}
 use Rattle.ts_json_tables.proofs.RoundLemmas.{children_again}
@@ -77,11 +77,11 @@ heading_again p t ms kept facts network keys is =
     let ids = id_values p.ids h.table_id in
     let ext = extension_values p.extension h.extension in
     let behind = p.common ++ (kept_rows p.keeps_numbers ++ (p.head ++ network_rows b)) in
-    let behind_values = common ++ (kept_values h.numbers ++ (others ++ last)) in
-    let s1 = split_read (first_rows p) behind (first_values p h) behind_values ms (fits_count (first_rows p) (first_values p h) (first_fit p t parts)) is in
+    let after_values = common ++ (kept_values h.numbers ++ (others ++ last)) in
+    let s1 = split_read (first_rows p) behind (first_values p h) after_values ms (fits_count (first_rows p) (first_values p h) (first_fit p t parts)) is in
     let s2 = split_read (version_row ∷ []) (current_row ∷ (id_rows p.ids ++ extension_rows p.extension)) (number h.version ∷ []) (truth h.current ∷ (ids ++ ext)) ms refl s1.0 in
     let s3 = split_read (current_row ∷ []) (id_rows p.ids ++ extension_rows p.extension) (truth h.current ∷ []) (ids ++ ext) ms refl s2.1 in
-    let s4 = split_read (id_rows p.ids) (extension_rows p.extension) ids ext ms (fits_count (id_rows p.ids) ids (id_fit p.ids h.table_id parts.lawful_id)) s3.1 in
+    let s4 = split_read (id_rows p.ids) (extension_rows p.extension) ids ext ms (fits_count (id_rows p.ids) ids (id_fit p.ids h.table_id parts.valid_id)) s3.1 in
     let s5 = split_read p.common _ common _ ms (fits_count p.common common parts.common) s1.1 in
     let s6 = split_read (kept_rows p.keeps_numbers) _ (kept_values h.numbers) _ ms (fits_count (kept_rows p.keeps_numbers) (kept_values h.numbers) (kept_fit p.keeps_numbers h.numbers parts.numbers)) s5.1 in
     let s7 = split_read p.head (network_rows b) others last ms (fits_count p.head others parts.others) s6.1 in
@@ -236,18 +236,18 @@ long_fit l facts ext kept =
 record LongParts (l : LongHolding) : Type 0 where
   extension : l.extension < 65536
   numbers : numbers_kept (is_eit_id l.table_id) l.numbers ≡ true
-  count : is_lawful_count (is_eit_id l.table_id) (length l.payloads) ≡ true
+  count : is_valid_count (is_eit_id l.table_id) (length l.payloads) ≡ true
 
-long_parts : (l : LongHolding) → lawful.is_long l ≡ true → LongParts l
+long_parts : (l : LongHolding) → valid.is_long l ≡ true → LongParts l
 long_parts l is =
     let a = both (nat_lt l.version 32) _ is in
     let b = both (nat_lt l.table_id 255) _ a.1 in
     let c = both (nat_lt l.extension 65536) _ b.1 in
     let d = both (numbers_kept (is_eit_id l.table_id) l.numbers) _ c.1 in
-    let e = both (is_lawful_count (is_eit_id l.table_id) (length l.payloads)) (list_all (is_payload 4084) l.payloads) d.1 in
+    let e = both (is_valid_count (is_eit_id l.table_id) (length l.payloads)) (list_all (is_payload 4084) l.payloads) d.1 in
     record { extension = ltb-true l.extension 65536 c.0; numbers = d.0; count = e.0 }
 
-counted_again : (eit : Bool) (rows : List (List ℕ)) → is_lawful_count eit (length rows) ≡ true
+counted_again : (eit : Bool) (rows : List (List ℕ)) → is_valid_count eit (length rows) ≡ true
     → sections_counted eit (items_of (map section_shown rows)) ≡ Ok (items_of (map section_shown rows))
 counted_again eit rows is =
     rw (count_list (map section_shown rows), length-map rows section_shown, is) refl
@@ -273,7 +273,7 @@ long_head_again l ms kept read =
       eit_same ms l.table_id id,
     )
 
-long_again : Laws → (l : LongHolding) → lawful.is_long l ≡ true → list_all are_bytes l.payloads ≡ true
+long_again : Laws → (l : LongHolding) → valid.is_long l ≡ true → list_all are_bytes l.payloads ≡ true
     → read_long (element_members (long_rows (is_eit_id l.table_id)) long_name (Some (array (items_of (map section_shown l.payloads)))) (long_values l))
     ≡ Ok (long l)
 unfolding read_long nodes_of

@@ -20,7 +20,7 @@ use Rattle.ts_table_rows.specs.TableFitting.{item_fits, items_fit, none_there}
 use Rattle.ts_table_rows.specs.TablePages.{ItemPage, TablePage}
 use Rattle.ts_table_rows.specs.TableSections.{own_thing, item_thing, items_in, owns_in}
 use Rattle.ts_table_rows.specs.TableValues.{ItemHolding}
-use Rattle.ts_json_tables.specs.LawfulTables.{items_within}
+use Rattle.ts_json_tables.specs.ValidTables.{items_within}
 use Rattle.ts_json_tables.specs.TableElements.{described_shown, descrs_shown, item_shown, items_shown}
 use Rattle.ts_json_tables.specs.TableReading.{has_own, parted, read_child, read_described, read_descr, read_each, read_item, read_named, read_own}
 use Rattle.ts_json_tables.proofs.AgainLemmas.{AllRead, Laws, all_append, each_read, self_name}

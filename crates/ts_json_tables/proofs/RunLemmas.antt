@@ -6,9 +6,9 @@ use Rattle.std.specs.List.{list_all}
 use Rattle.std.proofs.lemmas.Bool.{and_from, eqb-true, le-leb, lt-ltb}
 use Rattle.std.proofs.lemmas.List.{length-drop, length-map, length-take-le}
 use Rattle.std.proofs.lemmas.List.Elements.{All-get_or, All-head}
-use Rattle.bit_rows.proofs.Fields.{field-below}
+use Rattle.ts_bit_rows.proofs.Fields.{field-below}
 use Rattle.ts_jtree.specs.Shown.{are_within}
-use Rattle.ts_section.specs.LawfulSection.{IsSection}
+use Rattle.ts_section.specs.ValidSection.{IsSection}
 use Rattle.ts_section.specs.SectionFields.{body_of, extension_of, is_long, last_number_of, number_of, table_id_of, version_of}
 use Rattle.ts_section.specs.SectionRun.{IsTableRun, stands_alone}
 use Rattle.ts_fields.specs.Fitting.{fits}
@@ -20,11 +20,11 @@ use Rattle.ts_table_rows.specs.TableValues.{ItemHolding, TableHolding}
 use Rattle.ts_json_tables.specs.declared.table.Table.{Table}
 use Rattle.ts_json_tables.specs.ElementRows.{is_eit_id}
 use Rattle.ts_json_tables.specs.HeldTables.{TableValue, long, short, table_value}
-use Rattle.ts_json_tables.specs.LawfulTables.{IsLaid, IsTable, is_payload, items_within, numbers_kept}
-use Rattle.ts_json_tables.specs.LawfulTables as lawful
+use Rattle.ts_json_tables.specs.ValidTables.{IsLaid, IsTable, is_payload, items_within, numbers_kept}
+use Rattle.ts_json_tables.specs.ValidTables as valid
 use Rattle.ts_json_tables.specs.RunTables.{bytes_table, kept_numbers, long_of, settled, settled_extension, settled_items, short_of}
 use Rattle.ts_json_tables.specs.TableElements.{shown_items}
-use Rattle.ts_json_tables.specs.TableReading.{is_lawful_count}
+use Rattle.ts_json_tables.specs.TableReading.{is_valid_count}
 use Rattle.ts_json_tables.proofs.EntryLemmas.{Settled, begins_not, settled_none, settled_some}
 use Rattle.ts_json_tables.proofs.FitLemmas.{fit_parts}
 use Rattle.ts_json_tables.proofs.KnownLemmas.{Facts, ItemsBare}
@@ -73,7 +73,7 @@ eit_alone s is = rw is refl
 
 -- how many sections there are, each of the long form
 record Counted (s : List ℕ) (run : List (List ℕ)) : Type 0 where
-  count : is_lawful_count (is_eit_id (table_id_of s)) (length run) ≡ true
+  count : is_valid_count (is_eit_id (table_id_of s)) (length run) ≡ true
   longs : (i : ℕ) → i < length run → is_long (get_or run i []) ≡ true
 
 counted_run : (s : List ℕ) (ss : List (List ℕ)) → is_long s ≡ true → IsTableRun (s ∷ ss) → Counted s (s ∷ ss)
@@ -101,7 +101,7 @@ numbers_by true n order last = and_from (nat_le n.0 n.1) (nat_lt n.1 256) (le-le
 numbers_by false n order last = refl
 
 long_run : (s : List ℕ) (ss : List (List ℕ)) → is_long s ≡ true → IsTableRun (s ∷ ss) → All (λ b. IsSection b) (s ∷ ss)
-    → lawful.is_long (long_of s (s ∷ ss)) ≡ true
+    → valid.is_long (long_of s (s ∷ ss)) ≡ true
 long_run s ss form run all =
     let here = All-head (λ b. IsSection b) s ss all in
     let counted = counted_run s ss form run in
@@ -110,16 +110,16 @@ long_run s ss form run all =
     (and_from (nat_lt (table_id_of s) 255) _ (lt-ltb (table_id_of s) 255 (id_small s here))
     (and_from (nat_lt (extension_of s) 65536) _ (lt-ltb (extension_of s) 65536 (field-below s 24 16))
     (and_from (numbers_kept (is_eit_id (table_id_of s)) (kept_numbers s)) _ (numbers_by (is_eit_id (table_id_of s)) (number_of s, last_number_of s) numbers (field-below s 56 8))
-    (and_from (is_lawful_count (is_eit_id (table_id_of s)) (length (map body_of (s ∷ ss)))) _
-    (ap (is_lawful_count (is_eit_id (table_id_of s))) (map_count (s ∷ ss)) ∙ counted.count)
+    (and_from (is_valid_count (is_eit_id (table_id_of s)) (length (map body_of (s ∷ ss)))) _
+    (ap (is_valid_count (is_eit_id (table_id_of s))) (map_count (s ∷ ss)) ∙ counted.count)
     (small_at (s ∷ ss) (λ i inside. (All-get_or (λ b. IsSection b) (s ∷ ss) i [] inside all, counted.longs i inside)))))))
   where
     map_count : (run : List (List ℕ)) → length (map body_of run) ≡ length run
     map_count run = length-map run body_of
 
-pub bytes_lawful : (run : List (List ℕ)) → IsTableRun run → All (λ b. IsSection b) run → IsTable (bytes_table run)
-bytes_lawful [] whole all = absurd whole
-bytes_lawful (s ∷ ss) whole all = go (is_long s) refl
+pub bytes_valid : (run : List (List ℕ)) → IsTableRun run → All (λ b. IsSection b) run → IsTable (bytes_table run)
+bytes_valid [] whole all = absurd whole
+bytes_valid (s ∷ ss) whole all = go (is_long s) refl
   where
     go : (b : Bool) → is_long s ≡ b → IsTable (if b then long (long_of s (s ∷ ss)) else short (short_of s))
     go true form = long_run s ss form whole all
@@ -245,7 +245,7 @@ settled_laid p t facts fit =
       known = facts.named;
       fits = and_from (head_fits p (settled p t).head) _
           (and_from (has_id p.ids t.head.table_id) _ parts.id
-          (and_from (nat_lt t.head.table_id 255) _ (lt-ltb t.head.table_id 255 parts.lawful_id)
+          (and_from (nat_lt t.head.table_id 255) _ (lt-ltb t.head.table_id 255 parts.valid_id)
           (and_from (nat_lt (settled_extension p.extension t.head.extension) 65536) _ (lt-ltb (settled_extension p.extension t.head.extension) 65536 ext.0)
           (and_from (nat_lt t.head.version 32) _ (lt-ltb t.head.version 32 parts.version) parts.numbers))))
           (and_from (values_fit p t.body.values) _ (and_from (fits p.common _) (fits p.head _) parts.common parts.others)
@@ -255,7 +255,7 @@ settled_laid p t facts fit =
       within = kept.within;
     }
 
-pub same_lawful : (result : Result Table AllocError) (v : TableValue) → IfOk result (λ t. table_value t ≡ v) → IsTable v
+pub same_valid : (result : Result Table AllocError) (v : TableValue) → IfOk result (λ t. table_value t ≡ v) → IsTable v
     → IfOk result (λ t. IsTable (table_value t))
-same_lawful (Ok t) v is good = subst IsTable (sym is) good
-same_lawful (Err e) v is good = tt
+same_valid (Ok t) v is good = subst IsTable (sym is) good
+same_valid (Err e) v is good = tt

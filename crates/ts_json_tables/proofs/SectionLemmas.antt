@@ -7,9 +7,9 @@ use Rattle.std.proofs.lemmas.List.{drop_more, drop_all}
 use Rattle.ts_section.specs.WrittenSection.{long_section}
 use Rattle.ts_json_tables.specs.ElementRows.{is_eit_id}
 use Rattle.ts_json_tables.specs.HeldTables.{LongHolding}
-use Rattle.ts_json_tables.specs.LawfulTables.{is_long, is_payload, numbers_kept}
+use Rattle.ts_json_tables.specs.ValidTables.{is_long, is_payload, numbers_kept}
 use Rattle.ts_json_tables.specs.RunTables.{long_head, long_sections, numbered, numbers_used}
-use Rattle.ts_json_tables.specs.TableReading.{is_lawful_count}
+use Rattle.ts_json_tables.specs.TableReading.{is_valid_count}
 use Rattle.ts_json_tables.proofs.StepLemmas.{both}
 
 -- what sections of the long form have
@@ -20,7 +20,7 @@ pub record LongFacts (l : LongHolding) : Type 0 where
   pub last : (numbers_used l).1 < 256
   pub bodies : list_all (is_payload 4084) l.payloads ≡ true
 
-counted_by : (eit : Bool) (n : ℕ × ℕ) (count : ℕ) → numbers_kept eit n ≡ true → is_lawful_count eit count ≡ true
+counted_by : (eit : Bool) (n : ℕ × ℕ) (count : ℕ) → numbers_kept eit n ≡ true → is_valid_count eit count ≡ true
     → ((if eit then n else (0, count - 1)).0 + count ≤ (if eit then n else (0, count - 1)).1 + 1) × ((if eit then n else (0, count - 1)).1 < 256)
 counted_by true n count kept few =
     let parts = both (nat_le n.0 n.1) (nat_lt n.1 256) kept in
@@ -39,7 +39,7 @@ long_facts l is =
     let b = both (nat_lt l.table_id 255) _ a.1 in
     let c = both (nat_lt l.extension 65536) _ b.1 in
     let d = both (numbers_kept (is_eit_id l.table_id) l.numbers) _ c.1 in
-    let e = both (is_lawful_count (is_eit_id l.table_id) (length l.payloads)) (list_all (is_payload 4084) l.payloads) d.1 in
+    let e = both (is_valid_count (is_eit_id l.table_id) (length l.payloads)) (list_all (is_payload 4084) l.payloads) d.1 in
     let counts = counted_by (is_eit_id l.table_id) l.numbers (length l.payloads) d.0 e.0 in
     record {
       version = ltb-true l.version 32 a.0;

@@ -15,7 +15,7 @@ use Rattle.ts_table_rows.specs.TableValues.{ItemHolding, TableHolding}
 use Rattle.ts_bits.specs.TaggedBody.{TaggedBody}
 use Rattle.ts_json_tables.specs.ElementRows.{element_rows, extension_rows, first_rows, id_rows, is_eit_id, kept_rows, long_rows, network_rows, short_rows, table_id_row}
 use Rattle.ts_json_tables.specs.HeldTables.{LongHolding, ShortHolding}
-use Rattle.ts_json_tables.specs.LawfulTables.{IsLaid}
+use Rattle.ts_json_tables.specs.ValidTables.{IsLaid}
 use Rattle.ts_json_tables.specs.TableElements.{begins_with_zero, element_values, extension_values, first_values, id_values, kept_values, long_values, network_values, short_values}
 use Rattle.ts_json_tables.proofs.FitLemmas.{Parts, fit_parts}
 use Rattle.ts_json_tables.proofs.KnownLemmas.{named_facts}
@@ -74,7 +74,7 @@ kept_fit true (Some n) is =
 pub first_fit : (p : TablePage) (t : TableHolding) → Parts p t → fits (first_rows p) (first_values p t.head) ≡ true
 unfolding fits
 first_fit p t parts =
-    let id = id_fit p.ids t.head.table_id parts.lawful_id in
+    let id = id_fit p.ids t.head.table_id parts.valid_id in
     let extension = extension_fit p.extension t.head.extension parts.extension in
     let later = fits_append (id_rows p.ids) (extension_rows p.extension) (id_values p.ids t.head.table_id) (extension_values p.extension t.head.extension) id extension in
     and_from (nat_lt t.head.version (2 ^ 5)) _ (lt-ltb t.head.version (2 ^ 5) (omega (arith, parts.version)))

@@ -81,11 +81,11 @@ moment_told text n is =
     go (Some x) (Some y) small good is =
         let e : 0x1000000 * x + y ≡ n = cc in
         let day = small x refl in
-        let lawful = good y refl in
-        let time = time_small 23 y lawful in
+        let valid = good y refl in
+        let time = time_small 23 y valid in
         let low : (0x1000000 * x + y) % 0x1000000 ≡ y = omega (arith, time) in
         subst (λ k. (k < 2 ^ 40) × (is_start k ≡ true)) e
-        (omega (arith, day, time), or_right (nat_eq (0x1000000 * x + y) 0xFFFFFFFFFF) _ (rw low lawful))
+        (omega (arith, day, time), or_right (nat_eq (0x1000000 * x + y) 0xFFFFFFFFFF) _ (rw low valid))
 
 start_told : (text : List ℕ) (n : ℕ) → start_of text ≡ Some n → (n < 2 ^ 40) × (is_start n ≡ true)
 unfolding start_of is_start

@@ -5,7 +5,7 @@ use Rattle.std.specs.List.{list_all}
 use Rattle.std.proofs.lemmas.Bool.{cond_both, leb-true, ltb-false, ltb-true}
 use Rattle.std.proofs.lemmas.List.Elements.{All-cons, All-nil}
 use Rattle.ts_fields.specs.Fitting.{are_bytes}
-use Rattle.ts_section.specs.LawfulSection.{IsSection}
+use Rattle.ts_section.specs.ValidSection.{IsSection}
 use Rattle.ts_section.specs.SectionFields.{is_long, table_id_of}
 use Rattle.ts_section.specs.SectionRun.{IsTableRun, stands_alone}
 use Rattle.ts_section.specs.WrittenSection.{IsShortSectionOf, short_section}
@@ -25,7 +25,7 @@ use Rattle.ts_table_rows.specs.TableSections.{body_rows, head_with, numbers_of, 
 use Rattle.ts_table_rows.specs.TableValues.{BodyHolding, ItemHolding, TableHolding}
 use Rattle.ts_json_tables.specs.HeldTables.{ShortHolding, laid, long, short}
 use Rattle.ts_json_tables.specs.KnownPages.{page_with_id}
-use Rattle.ts_json_tables.specs.LawfulTables.{IsLaid, is_payload, is_short, items_within}
+use Rattle.ts_json_tables.specs.ValidTables.{IsLaid, is_payload, is_short, items_within}
 use Rattle.ts_json_tables.specs.RunTables.{bytes_table, long_of, read_or_bytes, settled, settled_items, short_of, table_by, table_of_run}
 use Rattle.ts_json_tables.specs.TableElements.{shown_items}
 use Rattle.ts_json_tables.specs.ToldTables.{TellsTable}
@@ -33,14 +33,14 @@ use Rattle.ts_json_tables.proofs.EntryLemmas.{not_zero}
 use Rattle.ts_json_tables.proofs.FitLemmas.{Parts, fit_parts}
 use Rattle.ts_json_tables.proofs.KnownLemmas.{named_facts}
 use Rattle.ts_json_tables.proofs.MadeBodies.{AreBodies, Spelled, bodies_are}
-use Rattle.ts_json_tables.proofs.MadeSections.{AreHeads, MadeLawful, all_made, made_by, rows_made, small_bytes}
+use Rattle.ts_json_tables.proofs.MadeSections.{AreHeads, MadeValid, all_made, made_by, rows_made, small_bytes}
 use Rattle.ts_json_tables.proofs.PageIds.{IdFacts, named_ids}
 use Rattle.ts_json_tables.proofs.StepLemmas.{both}
 
 -- ---- a section of the short form
 
-abbrev pub ShortLawful : Type 0
-ShortLawful = (id : ℕ) (own : Bool) (body : List ℕ) → id < 255 → All (λ x. x < 256) body → length body ≤ 4093 → IsShortSectionOf id own body (short_section id own body)
+abbrev pub ShortValid : Type 0
+ShortValid = (id : ℕ) (own : Bool) (body : List ℕ) → id < 255 → All (λ x. x < 256) body → length body ≤ 4093 → IsShortSectionOf id own body (short_section id own body)
 
 abbrev short_with : ℕ → Bool → List ℕ → ShortHolding
 short_with id own payload = record { table_id = id; own = own; payload = payload }
@@ -65,13 +65,13 @@ short_page (Some p) x s form told = ap (λ r. read_or_bytes p r (x ∷ [])) (sho
 short_alone : (x : List ℕ) → is_long x ≡ false → stands_alone x ≡ true
 short_alone x form = rw form refl
 
-pub short_told : ShortLawful → (s : ShortHolding) → is_short s ≡ true → are_bytes s.payload ≡ true → TellsTable (short s) (short_section s.table_id s.own s.payload ∷ [])
+pub short_told : ShortValid → (s : ShortHolding) → is_short s ≡ true → are_bytes s.payload ≡ true → TellsTable (short s) (short_section s.table_id s.own s.payload ∷ [])
 short_told law s is bytes =
     let parts = both (nat_lt s.table_id 255) (is_payload 4093 s.payload) is in
     let x = short_section s.table_id s.own s.payload in
     let made = law s.table_id s.own s.payload (ltb-true s.table_id 255 parts.0) (small_bytes s.payload bytes) (leb-true (length s.payload) 4093 parts.1) in
     record {
-      lawful = All-cons (λ b. IsSection b) x [] made.lawful (All-nil (λ b. IsSection b));
+      valid = All-cons (λ b. IsSection b) x [] made.valid (All-nil (λ b. IsSection b));
       whole = inl (short_alone x made.short, refl);
       table = short_page (page_with_id (table_id_of x)) x s made.short (short_bytes x s made);
     }
@@ -156,29 +156,29 @@ made_heads p h last id extension version small = record {
   small = small;
 }
 
-rows_lawful : MadeLawful → (p : TablePage) (t : TableHolding) (rows ss : List (List ℕ)) → Parts p t → IdFacts p → AreBodies p.single rows → sections_with p t.head rows ≡ Ok ss
+rows_valid : MadeValid → (p : TablePage) (t : TableHolding) (rows ss : List (List ℕ)) → Parts p t → IdFacts p → AreBodies p.single rows → sections_with p t.head rows ≡ Ok ss
     → All (λ s. IsSection s) ss
-rows_lawful law p t rows ss parts ids bodies =
+rows_valid law p t rows ss parts ids bodies =
     let first : ℕ = (numbers_of t.head.numbers (length rows)).0 in
     let last : ℕ = (numbers_of t.head.numbers (length rows)).1 in
     cond_both (nat_lt 256 (length rows)) _ _ (λ (r : Result (List (List ℕ)) TableRefusal). r ≡ Ok ss → All (λ s. IsSection s) ss)
     (λ many is. cc)
     (λ few is.
     let numbers = numbers_by p.keeps_numbers t.head.numbers (length rows) parts.numbers bodies.some (ltb-false 256 (length rows) few) (λ keeps. bodies.one (ids.keeps keeps)) in
-    let heads = made_heads p t.head last parts.lawful_id parts.extension parts.version numbers.small in
+    let heads = made_heads p t.head last parts.valid_id parts.extension parts.version numbers.small in
     let are : made_by (head_with p t.head last) first rows ≡ ss = sym (rows_made p t.head last first rows) ∙ same_written _ ss is in
     subst (All (λ s. IsSection s)) are (all_made law (head_with p t.head last) last first rows heads numbers.room bodies.small bodies.bytes))
   where
     same_written : (x y : List (List ℕ)) → ◌≡◌ {A = Result (List (List ℕ)) TableRefusal} (Ok x) (Ok y) → x ≡ y
     same_written x y is = cc
 
-laid_lawful : Spelled → MadeLawful → (p : TablePage) (t : TableHolding) (ss : List (List ℕ)) → IsLaid p t → sections_of p t ≡ Ok ss → All (λ s. IsSection s) ss
+laid_valid : Spelled → MadeValid → (p : TablePage) (t : TableHolding) (ss : List (List ℕ)) → IsLaid p t → sections_of p t ≡ Ok ss → All (λ s. IsSection s) ss
 unfolding sections_of
-laid_lawful spelled law p t ss is =
+laid_valid spelled law p t ss is =
     λ written.
     let ids = named_ids p.name p is.known in
     then_written (body_rows p t.body) (sections_with p t.head) ss written (λ rows were made.
-    rows_lawful law p t rows ss (fit_parts p t is.fits) ids (bodies_are spelled p t.body rows ids.most were) made)
+    rows_valid law p t rows ss (fit_parts p t is.fits) ids (bodies_are spelled p t.body rows ids.most were) made)
 
 -- ---- and give it
 
@@ -208,14 +208,14 @@ pub record Written : Type 0 where
   pub again : (p : TablePage) (h : TableHolding) → IsTrue (page_sound p) → table_fits p h ≡ true → DescriptorsFit h.body → IsReadAgain p h
   pub whole : (p : TablePage) (h : TableHolding) → IsTrue (page_sound p) → forms_runs p ≡ true → table_fits p h ≡ true → DescriptorsFit h.body → IsWrittenWhole p h
 
-pub laid_told : Written → Spelled → MadeLawful → (p : TablePage) (t : TableHolding) (ss : List (List ℕ)) → IsLaid p t → DescriptorsFit t.body → sections_of p t ≡ Ok ss
+pub laid_told : Written → Spelled → MadeValid → (p : TablePage) (t : TableHolding) (ss : List (List ℕ)) → IsLaid p t → DescriptorsFit t.body → sections_of p t ≡ Ok ss
     → TellsTable (laid p t) ss
 laid_told written spelled law p t ss is well made =
     let facts = named_facts p.name p is.known in
     let ids = named_ids p.name p is.known in
     let whole = written.whole p t facts.sound ids.runs is.fits well ss made in
     record {
-      lawful = laid_lawful spelled law p t ss is made;
+      valid = laid_valid spelled law p t ss is made;
       whole = whole;
       table = laid_table p t ss is ids whole (written.again p t facts.sound is.fits well ss made);
     }

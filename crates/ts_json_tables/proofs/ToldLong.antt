@@ -4,7 +4,7 @@ use Rattle.std.specs.Prelude.{All, Option, Some, None, Result, Ok, Err, nat_eq, 
 use Rattle.std.specs.List.{list_all}
 use Rattle.std.proofs.lemmas.Bool.{eqb-true, leb-true, ltb-true}
 use Rattle.ts_fields.specs.Fitting.{are_bytes}
-use Rattle.ts_section.specs.LawfulSection.{IsSection}
+use Rattle.ts_section.specs.ValidSection.{IsSection}
 use Rattle.ts_section.specs.SectionFields.{body_of, current_of, extension_of, is_long, last_number_of, number_of, private_of, table_id_of, version_of}
 use Rattle.ts_section.specs.SectionRun.{AllMembers, IsMember, IsTableRun, stands_alone}
 use Rattle.ts_section.specs.WrittenSection.{IsLongSectionOf}
@@ -14,12 +14,12 @@ use Rattle.ts_table_rows.specs.TableValues.{TableHolding}
 use Rattle.ts_json_tables.specs.ElementRows.{is_eit_id}
 use Rattle.ts_json_tables.specs.HeldTables.{LongHolding, long, short}
 use Rattle.ts_json_tables.specs.KnownPages.{page_with_id}
-use Rattle.ts_json_tables.specs.LawfulTables.{is_payload, numbers_kept}
-use Rattle.ts_json_tables.specs.LawfulTables as lawful
+use Rattle.ts_json_tables.specs.ValidTables.{is_payload, numbers_kept}
+use Rattle.ts_json_tables.specs.ValidTables as valid
 use Rattle.ts_json_tables.specs.RunTables.{bytes_table, kept_numbers, long_head, long_of, long_sections, numbers_used, read_or_bytes, short_of, table_by, table_of_run}
-use Rattle.ts_json_tables.specs.TableReading.{is_lawful_count}
+use Rattle.ts_json_tables.specs.TableReading.{is_valid_count}
 use Rattle.ts_json_tables.specs.ToldTables.{TellsTable, laid_or_long, long_by_page, told_again}
-use Rattle.ts_json_tables.proofs.MadeSections.{AreHeads, MadeLawful, all_made, made_at, made_by, made_length, numbered_made}
+use Rattle.ts_json_tables.proofs.MadeSections.{AreHeads, MadeValid, all_made, made_at, made_by, made_length, numbered_made}
 use Rattle.ts_json_tables.proofs.SectionLemmas.{LongFacts, long_facts}
 use Rattle.ts_json_tables.proofs.StepLemmas.{both}
 
@@ -29,15 +29,15 @@ pub record LongParts (l : LongHolding) : Type 0 where
   pub facts : LongFacts l
   pub extension : l.extension < 65536
   pub numbers : numbers_kept (is_eit_id l.table_id) l.numbers ≡ true
-  pub count : is_lawful_count (is_eit_id l.table_id) (length l.payloads) ≡ true
+  pub count : is_valid_count (is_eit_id l.table_id) (length l.payloads) ≡ true
 
-pub long_parts : (l : LongHolding) → lawful.is_long l ≡ true → LongParts l
+pub long_parts : (l : LongHolding) → valid.is_long l ≡ true → LongParts l
 long_parts l is =
     let a = both (nat_lt l.version 32) _ is in
     let b = both (nat_lt l.table_id 255) _ a.1 in
     let c = both (nat_lt l.extension 65536) _ b.1 in
     let d = both (numbers_kept (is_eit_id l.table_id) l.numbers) _ c.1 in
-    let e = both (is_lawful_count (is_eit_id l.table_id) (length l.payloads)) (list_all (is_payload 4084) l.payloads) d.1 in
+    let e = both (is_valid_count (is_eit_id l.table_id) (length l.payloads)) (list_all (is_payload 4084) l.payloads) d.1 in
     record { facts = long_facts l is; extension = ltb-true l.extension 65536 c.0; numbers = d.0; count = e.0 }
 
 long_heads : (l : LongHolding) → LongParts l → AreHeads (long_head l (numbers_used l).1) (numbers_used l).1
@@ -57,13 +57,13 @@ pub long_count : (l : LongHolding) → length (long_sections l) ≡ length l.pay
 long_count l = ap length (long_made l) ∙ made_length (long_head l (numbers_used l).1) (numbers_used l).0 l.payloads
 
 -- a section of the table
-pub long_at : MadeLawful → (l : LongHolding) → LongParts l → list_all are_bytes l.payloads ≡ true → (k : ℕ) → k < length l.payloads
+pub long_at : MadeValid → (l : LongHolding) → LongParts l → list_all are_bytes l.payloads ≡ true → (k : ℕ) → k < length l.payloads
     → IsLongSectionOf (long_head l (numbers_used l).1 ((numbers_used l).0 + k)) (get_or l.payloads k []) (get_or (long_sections l) k [])
 long_at law l parts bytes k inside =
     subst (λ ss. IsLongSectionOf (long_head l (numbers_used l).1 ((numbers_used l).0 + k)) (get_or l.payloads k []) (get_or ss k [])) (sym (long_made l))
     (made_at law (long_head l (numbers_used l).1) (numbers_used l).1 (numbers_used l).0 l.payloads (long_heads l parts) parts.facts.counted parts.facts.bodies bytes k inside)
 
-long_all : MadeLawful → (l : LongHolding) → LongParts l → list_all are_bytes l.payloads ≡ true → All (λ s. IsSection s) (long_sections l)
+long_all : MadeValid → (l : LongHolding) → LongParts l → list_all are_bytes l.payloads ≡ true → All (λ s. IsSection s) (long_sections l)
 long_all law l parts bytes =
     subst (All (λ s. IsSection s)) (sym (long_made l))
     (all_made law (long_head l (numbers_used l).1) (numbers_used l).1 (numbers_used l).0 l.payloads (long_heads l parts) parts.facts.counted parts.facts.bodies bytes)
@@ -93,7 +93,7 @@ record FirstMade (l : LongHolding) (run : List (List ℕ)) : Type 0 where
   number : number_of first ≡ (numbers_used l).0
   last : last_number_of first ≡ (numbers_used l).1
 
-some_payloads : (eit : Bool) (count : ℕ) → is_lawful_count eit count ≡ true → 0 < count
+some_payloads : (eit : Bool) (count : ℕ) → is_valid_count eit count ≡ true → 0 < count
 some_payloads true count is = let one = eqb-true count 1 is in omega (arith, one)
 some_payloads false count is = let least = leb-true 1 count (both (nat_le 1 count) (nat_le count 256) is).0 in omega (arith, least)
 
@@ -114,14 +114,14 @@ first_by l (s ∷ rest) some made = record {
   last = ap (λ f. f.last) made.same_head;
 }
 
-long_first : MadeLawful → (l : LongHolding) → LongParts l → list_all are_bytes l.payloads ≡ true → FirstMade l (long_sections l)
+long_first : MadeValid → (l : LongHolding) → LongParts l → list_all are_bytes l.payloads ≡ true → FirstMade l (long_sections l)
 long_first law l parts bytes =
     let some = some_payloads (is_eit_id l.table_id) (length l.payloads) parts.count in
     first_by l (long_sections l) (omega (arith, some, long_count l)) (long_at law l parts bytes 0 some)
 
 -- ---- they are a whole run
 
-long_member : MadeLawful → (l : LongHolding) (parts : LongParts l) → list_all are_bytes l.payloads ≡ true → (first : List ℕ) → is_eit_id l.table_id ≡ false
+long_member : MadeValid → (l : LongHolding) (parts : LongParts l) → list_all are_bytes l.payloads ≡ true → (first : List ℕ) → is_eit_id l.table_id ≡ false
     → table_id_of first ≡ l.table_id → extension_of first ≡ l.extension → version_of first ≡ l.version → current_of first ≡ l.current
     → last_number_of first ≡ length l.payloads - 1 → (k : ℕ) → k < length l.payloads → IsMember first k (get_or (long_sections l) k [])
 long_member law l parts bytes first other id extension version current last k inside =
@@ -143,8 +143,8 @@ no_more : (s : List ℕ) (rest : List (List ℕ)) → length (s ∷ rest) ≡ 1 
 no_more s [] one = refl
 no_more s (t ∷ rest) one = absurd (omega (arith, one))
 
-whole_by : MadeLawful → (l : LongHolding) (parts : LongParts l) → list_all are_bytes l.payloads ≡ true → (run : List (List ℕ)) → run ≡ long_sections l
-    → FirstMade l run → (eit : Bool) → is_eit_id l.table_id ≡ eit → is_lawful_count eit (length l.payloads) ≡ true → IsTableRun run
+whole_by : MadeValid → (l : LongHolding) (parts : LongParts l) → list_all are_bytes l.payloads ≡ true → (run : List (List ℕ)) → run ≡ long_sections l
+    → FirstMade l run → (eit : Bool) → is_eit_id l.table_id ≡ eit → is_valid_count eit (length l.payloads) ≡ true → IsTableRun run
 whole_by law l parts bytes run same first true eit count =
     let one : length (first.first ∷ first.rest) ≡ 1 = ap length (sym first.are) ∙ ap length same ∙ long_count l ∙ eqb-true (length l.payloads) 1 count in
     subst IsTableRun (sym first.are) (inl (alone_by first.first l.table_id first.form first.id ∙ eit, no_more first.first first.rest one))
@@ -197,13 +197,13 @@ by_page (Some p) run l same told = by_reading p (read_run p run) run l told ∙ 
 table_by_first : (s : List ℕ) (rest run : List (List ℕ)) → run ≡ s ∷ rest → table_of_run run ≡ table_by (page_with_id (table_id_of s)) run
 table_by_first s rest run are = ap table_of_run are ∙ ap (table_by (page_with_id (table_id_of s))) (sym are)
 
-pub long_told : MadeLawful → (l : LongHolding) → lawful.is_long l ≡ true → list_all are_bytes l.payloads ≡ true → TellsTable (told_again (long l)) (long_sections l)
+pub long_told : MadeValid → (l : LongHolding) → valid.is_long l ≡ true → list_all are_bytes l.payloads ≡ true → TellsTable (told_again (long l)) (long_sections l)
 long_told law l is bytes =
     let parts = long_parts l is in
     let first = long_first law l parts bytes in
     let bodies = bodies_by (long_sections l) l.payloads (long_count l) (λ k inside. (long_at law l parts bytes k inside).same_body) in
     record {
-      lawful = long_all law l parts bytes;
+      valid = long_all law l parts bytes;
       whole = whole_by law l parts bytes (long_sections l) refl first (is_eit_id l.table_id) refl parts.count;
       table =
           table_by_first first.first first.rest (long_sections l) first.are

@@ -6,5 +6,5 @@ pub mod TableElements
 pub mod HeadReading
 pub mod TableReading
 pub mod RunTables
-pub mod LawfulTables
+pub mod ValidTables
 pub mod ToldTables

@@ -48,13 +48,13 @@ begins_with_zero one_zero [] = false
 begins_with_zero one_zero (x ∷ xs) = one_zero && is_zero (first_number x.values)
 
 -- the values after the 0 of such an item
-abbrev pub values_behind : List ItemHolding → List Held
-values_behind [] = []
-values_behind (x ∷ xs) = drop 1 x.values
+abbrev pub values_after : List ItemHolding → List Held
+values_after [] = []
+values_after (x ∷ xs) = drop 1 x.values
 
 -- the values after the 0 of the first item, where that has the number 0
 abbrev pub network_values : Bool → List ItemHolding → List Held
-network_values one_zero items = if begins_with_zero one_zero items then values_behind items else []
+network_values one_zero items = if begins_with_zero one_zero items then values_after items else []
 
 -- the items that are children
 abbrev pub shown_items : Bool → List ItemHolding → List ItemHolding

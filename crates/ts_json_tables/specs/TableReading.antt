@@ -141,13 +141,13 @@ count_of no_items = 0
 count_of (item value more) = count_of more + 1
 
 -- whether a table may have this number of sections: 1 to 256, an EIT one
-abbrev pub is_lawful_count : Bool → ℕ → Bool
-is_lawful_count eit n = if eit then nat_eq n 1 else nat_le 1 n && nat_le n 256
+abbrev pub is_valid_count : Bool → ℕ → Bool
+is_valid_count eit n = if eit then nat_eq n 1 else nat_le 1 n && nat_le n 256
 
 -- the children, where a table may have their number of sections
 abbrev pub sections_counted : Bool → Items → Reading Items
 sections_counted eit nodes =
-    if is_lawful_count eit (count_of nodes) then Ok nodes else refuse nodes_key OutOfRange
+    if is_valid_count eit (count_of nodes) then Ok nodes else refuse nodes_key OutOfRange
 
 -- the section numbers of a table; 0 and 0 where it keeps none
 abbrev pub kept_or_none : Option (ℕ × ℕ) → ℕ × ℕ

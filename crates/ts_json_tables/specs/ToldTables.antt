@@ -2,7 +2,7 @@
 -- This project's own rule: the sections of a table give it again as it was, except those of a table given by its bytes,
 -- of the long form, that read as the table of their table_id: they give that one.
 use Rattle.std.specs.Prelude.{◌≡◌, ℕ, List, Option, Some, None, Result, Ok, Err, All}
-use Rattle.ts_section.specs.LawfulSection.{IsSection}
+use Rattle.ts_section.specs.ValidSection.{IsSection}
 use Rattle.ts_section.specs.SectionRun.{IsTableRun}
 use Rattle.ts_table_rows.specs.RunReading.{FirstBroken, read_run}
 use Rattle.ts_table_rows.specs.TablePages.{TablePage}
@@ -29,7 +29,7 @@ told_again (long l) = long_by_page (page_with_id l.table_id) l
 
 -- the sections are valid, are the whole run of one table, and give this table
 pub record TellsTable (t : TableValue) (run : List (List ℕ)) : Type 0 where
-  pub lawful : All (λ s. IsSection s) run
+  pub valid : All (λ s. IsSection s) run
   pub whole : IsTableRun run
   pub table : table_of_run run ≡ t
 

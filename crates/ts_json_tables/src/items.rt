@@ -86,7 +86,7 @@ fn all_items_json(
 }
 
 /// The items that are children: all but a first one with number 0.
-fn items_behind_zero(one_zero: bool, items: &[TableItem]) -> &[TableItem]
+fn items_after_zero(one_zero: bool, items: &[TableItem]) -> &[TableItem]
     ensures { map item_held result.now ≡ shown_items one_zero (map item_held items.now) }
 {
     if !begins_with_zero(one_zero, items) {
@@ -108,7 +108,7 @@ pub fn children_json(
     ensures { IfOk result (λ v. map view v.items ≡ children_shown (table_page layout.now) (body_held body.now)) }
 {
     let mut nodes = descrs_json(alloc, body.descriptors.as_slice())?;
-    let items = items_behind_zero(layout.one_zero, &body.items);
+    let items = items_after_zero(layout.one_zero, &body.items);
     let mut others = all_items_json(alloc, layout.items, items)?;
     nodes.append(&mut others)?;
     Ok(nodes)

@@ -21,6 +21,6 @@ pub use sections::table_sections;
 pub use showing::to_json;
 pub use table::{LaidTable, LongTable, ShortTable, Table};
 pub use table_laws::{
-    read_tables_are_lawful, run_tables_are_of_bytes, sections_tell_their_table,
+    read_tables_are_valid, run_tables_are_of_bytes, sections_tell_their_table,
     shown_table_is_plain, shown_table_is_read,
 };

@@ -7,7 +7,7 @@ ghost use Rattle.ts_table_rows.specs.TablePages.{table_page, page_sound};
 ghost use Rattle.ts_table_rows.specs.TableValues.{item_held};
 ghost use Rattle.ts_table_pages.specs.PatEntries.{network_items};
 ghost use Rattle.ts_json_tables.specs.HeldTables.{laid_value, long, long_held, short, short_held, table_value};
-ghost use Rattle.ts_json_tables.specs.LawfulTables.{IsTable};
+ghost use Rattle.ts_json_tables.specs.ValidTables.{IsTable};
 ghost use Rattle.ts_json_tables.specs.TableReading;
 ghost use Rattle.ts_json_tables.specs.TableReading.{kept_or_none, read_by_name, read_each, sections_counted, table_read};
 
@@ -101,8 +101,8 @@ fn read_short(alloc: Global, members: &Map<String, Value>) -> Result<ShortTable,
 }
 
 /// Whether a table may have this number of sections.
-fn is_lawful_count(eit: bool, count: usize) -> bool
-    ensures { result ≡ TableReading.is_lawful_count eit count }
+fn is_valid_count(eit: bool, count: usize) -> bool
+    ensures { result ≡ TableReading.is_valid_count eit count }
 {
     if eit {
         count == 1
@@ -115,7 +115,7 @@ fn is_lawful_count(eit: bool, count: usize) -> bool
 fn counted(alloc: Global, eit: bool, nodes: &[Value]) -> Result<(), ReadRefusal>
     ensures { Answers (λ _. items_view nodes.now) result (sections_counted eit (items_view nodes.now)) }
 {
-    if !is_lawful_count(eit, nodes.len()) {
+    if !is_valid_count(eit, nodes.len()) {
         return Err(refuse_key(alloc, "#nodes", JsonKind::OutOfRange));
     }
     Ok(())
@@ -199,7 +199,7 @@ fn read_named(alloc: Global, name: &str, members: &Map<String, Value>) -> Result
 #[tactic(auto, unfolding(crate::specs::TableReading::table_read))]
 pub fn of_json(alloc: Global, value: &Value) -> Result<Table, ReadRefusal>
     ensures read { Answers table_value result (table_read (view value.now)) }
-    ensures lawful { IfOk result (λ t. IsTable (table_value t)) }
+    ensures valid { IfOk result (λ t. IsTable (table_value t)) }
 {
     let members = members(alloc, value)?;
     let name = element_name(alloc, members)?;
@@ -209,7 +209,7 @@ pub fn of_json(alloc: Global, value: &Value) -> Result<Table, ReadRefusal>
 /// The table that is the child with this number.
 fn read_table_at(alloc: Global, place: usize, value: &Value) -> Result<Table, ReadRefusal>
     ensures read { Answers table_value result (at_child place (table_read (view value.now))) }
-    ensures lawful { IfOk result (λ t. IsTable (table_value t)) }
+    ensures valid { IfOk result (λ t. IsTable (table_value t)) }
 {
     match of_json(alloc, value) {
         Ok(table) => Ok(table),
@@ -220,7 +220,7 @@ fn read_table_at(alloc: Global, place: usize, value: &Value) -> Result<Table, Re
 /// The tables of elements, each a child of one element; a fault has the child's number, from 0, first in its path.
 pub fn tables_of_json(alloc: Global, nodes: &[Value]) -> Result<Vec<Table>, ReadRefusal>
     ensures read { Answers (λ v. map table_value v.items) result (read_each table_read 0 (items_view nodes.now)) }
-    ensures lawful { IfOk result (λ v. All (λ t. IsTable (table_value t)) v.items) }
+    ensures valid { IfOk result (λ v. All (λ t. IsTable (table_value t)) v.items) }
 {
     let mut tables = Vec::new(alloc);
     let mut place = 0;

@@ -3,7 +3,7 @@
 ghost use Rattle.std.specs.Prelude.{◌≡◌, ◌∷◌, [], ◌<◌, map, length, true, false, All, IfOk, IfSome, IsTrue, OnOk, is_some, Some, if◌then◌else◌};
 ghost use Rattle.ts_section.specs.SectionFields.{body_of};
 ghost use Rattle.ts_section.specs.SectionFields as fields;
-ghost use Rattle.ts_section.specs.LawfulSection.{IsSection};
+ghost use Rattle.ts_section.specs.ValidSection.{IsSection};
 ghost use Rattle.ts_table_rows.specs.TableFitting.{zeros_from};
 ghost use Rattle.ts_table_rows.specs.TablePages.{table_page, page_sound};
 ghost use Rattle.ts_table_rows.specs.TableFitting.{table_fits};
@@ -12,7 +12,7 @@ ghost use Rattle.ts_table_pages.specs.PatEntries.{ordered};
 ghost use Rattle.ts_json_tables.specs.ElementRows;
 ghost use Rattle.ts_json_tables.specs.HeldTables.{short, table_value};
 ghost use Rattle.ts_json_tables.specs.KnownPages.{page_named};
-ghost use Rattle.ts_json_tables.specs.LawfulTables.{IsTable};
+ghost use Rattle.ts_json_tables.specs.ValidTables.{IsTable};
 ghost use Rattle.ts_json_tables.specs.RunTables;
 ghost use Rattle.ts_json_tables.specs.RunTables.{bytes_table, kept_numbers, read_or_bytes, settled, settled_extension, settled_items, table_by, table_of_run};
 
@@ -96,7 +96,7 @@ fn settle(
 /// The bytes of the body of a section.
 fn payload_of(alloc: Global, section: &Section) -> Result<Vec<u8>, AllocError>
     ensures same { IfOk result (λ row. row.items ≡ body_of section.now) }
-    ensures lawful { IsSection section.now }
+    ensures valid { IsSection section.now }
 {
     Vec::from_slice(alloc, section.body())
 }
@@ -155,7 +155,7 @@ fn bytes_table(alloc: Global, sections: &[Section]) -> Result<Table, AllocError>
 /// The table of a section of the short form, given by its bytes.
 fn short_table(alloc: Global, section: &Section) -> Result<Table, AllocError>
     ensures same { IfOk result (λ t. table_value t ≡ short (RunTables.short_of section.now)) }
-    ensures lawful { IsSection section.now }
+    ensures valid { IsSection section.now }
 {
     let payload = payload_of(alloc, section)?;
     Ok(Table::Short(ShortTable {
@@ -174,7 +174,7 @@ fn typed_table(
     requires sound { IsTrue (page_sound (table_page layout.now)) }
     requires known { page_named (table_page layout.now).name ≡ Some (table_page layout.now) }
     ensures table { IfOk result (λ t. table_value t ≡ table_by (Some (table_page layout.now)) run.now) }
-    ensures lawful { IfOk result (λ t. IsTable (table_value t)) }
+    ensures valid { IfOk result (λ t. IsTable (table_value t)) }
 {
     match read_table(alloc, layout, run) {
         Ok(table) => {
@@ -189,7 +189,7 @@ fn typed_table(
 /// The table of a run: that of its table_id exactly where the run reads as one, and else its bytes.
 pub fn table_of(alloc: Global, run: &TableRun) -> Result<Table, AllocError>
     ensures table { IfOk result (λ t. table_value t ≡ table_of_run run.now) }
-    ensures lawful { IfOk result (λ t. IsTable (table_value t)) }
+    ensures valid { IfOk result (λ t. IsTable (table_value t)) }
 {
     let sections = run.sections();
     let Some(first) = sections.first() else {

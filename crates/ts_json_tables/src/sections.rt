@@ -9,8 +9,8 @@ ghost use Rattle.ts_table_rows.specs.TableSections as rows;
 ghost use Rattle.ts_table_rows.specs.TableValues.{table_held};
 ghost use Rattle.ts_json_tables.specs.ElementRows;
 ghost use Rattle.ts_json_tables.specs.HeldTables.{long_held, short, short_held, table_value};
-ghost use Rattle.ts_json_tables.specs.LawfulTables;
-ghost use Rattle.ts_json_tables.specs.LawfulTables.{IsLaid, IsTable};
+ghost use Rattle.ts_json_tables.specs.ValidTables;
+ghost use Rattle.ts_json_tables.specs.ValidTables.{IsLaid, IsTable};
 ghost use Rattle.ts_json_tables.specs.RunTables;
 ghost use Rattle.ts_json_tables.specs.RunTables.{long_head, long_sections, numbered, numbers_used, sections_of_table};
 
@@ -31,7 +31,7 @@ fn laid_sections(alloc: Global, table: &LaidTable) -> Result<Vec<Section>, Table
 
 /// The section of the short form.
 fn one_section(alloc: Global, table: &ShortTable) -> Result<Vec<Section>, TableRefusal>
-    requires { LawfulTables.is_short (short_held table.now) ≡ true }
+    requires { ValidTables.is_short (short_held table.now) ≡ true }
     ensures { Writes (λ v. v.items) result (sections_of_table (short (short_held table.now))) }
 {
     let section = Section::short(alloc, table.table_id, table.private, &table.payload)?;
@@ -40,7 +40,7 @@ fn one_section(alloc: Global, table: &ShortTable) -> Result<Vec<Section>, TableR
 
 /// The first and the last section number: an EIT's own, or from 0.
 fn first_and_last(table: &LongTable) -> (u8, u8)
-    requires { LawfulTables.is_long (long_held table.now) ≡ true }
+    requires { ValidTables.is_long (long_held table.now) ≡ true }
     ensures { result ≡ numbers_used (long_held table.now) }
 {
     if is_eit_id(table.table_id) {
@@ -57,7 +57,7 @@ fn section_with(
     number: u8,
     payload: &[u8],
 ) -> Result<Section, AllocError>
-    requires lawful_id { table.now.table_id < 255 }
+    requires valid_id { table.now.table_id < 255 }
     requires version { table.now.version < 32 }
     requires number { number ≤ last }
     requires room { length payload.now ≤ 4084 }
@@ -77,7 +77,7 @@ fn section_with(
 
 /// The sections of the long form with their numbers.
 fn numbered_sections(alloc: Global, table: &LongTable) -> Result<Vec<Section>, TableRefusal>
-    requires { LawfulTables.is_long (long_held table.now) ≡ true }
+    requires { ValidTables.is_long (long_held table.now) ≡ true }
     ensures { Writes (λ v. v.items) result (Ok (long_sections (long_held table.now))) }
 {
     let (first, last) = first_and_last(table);

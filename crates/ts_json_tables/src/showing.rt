@@ -6,8 +6,8 @@ ghost use Rattle.ts_fields.specs.Layout.{rows_of, held};
 ghost use Rattle.ts_table_rows.specs.TablePages.{table_page};
 ghost use Rattle.ts_table_rows.specs.TableValues.{table_held};
 ghost use Rattle.ts_json_tables.specs.HeldTables.{long_held, short_held, table_value};
-ghost use Rattle.ts_json_tables.specs.LawfulTables;
-ghost use Rattle.ts_json_tables.specs.LawfulTables.{IsLaid, IsTable};
+ghost use Rattle.ts_json_tables.specs.ValidTables;
+ghost use Rattle.ts_json_tables.specs.ValidTables.{IsLaid, IsTable};
 ghost use Rattle.ts_json_tables.specs.TableElements.{laid_shown, long_shown, short_shown, table_shown};
 
 use crate::items::{children_json, sections_json};

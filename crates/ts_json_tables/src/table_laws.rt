@@ -3,10 +3,10 @@
 ghost use Rattle.std.specs.Prelude.{◌≡◌, ◌≤◌, ℕ, List, false, All, Ok};
 ghost use Rattle.serde_json.specs.Data.{Data, depth};
 ghost use Rattle.serde_json.specs.Written.{has_float};
-ghost use Rattle.ts_section.specs.LawfulSection.{IsSection};
+ghost use Rattle.ts_section.specs.ValidSection.{IsSection};
 ghost use Rattle.ts_section.specs.SectionRun.{IsTableRun};
 ghost use Rattle.ts_json_tables.specs.HeldTables.{TableValue};
-ghost use Rattle.ts_json_tables.specs.LawfulTables.{IsOfBytes, IsTable};
+ghost use Rattle.ts_json_tables.specs.ValidTables.{IsOfBytes, IsTable};
 ghost use Rattle.ts_json_tables.specs.RunTables.{sections_of_table, table_of_run};
 ghost use Rattle.ts_json_tables.specs.TableElements.{table_shown};
 ghost use Rattle.ts_json_tables.specs.TableReading.{table_read};
@@ -16,7 +16,7 @@ use ts_bits::loops_are_whole_or_cut;
 use ts_fields::{length_of_bits, read_bytes_are_spelled};
 use ts_json_descr::shown_descr_is_read;
 use ts_jtree::element_shows;
-use ts_section::made_sections_are_lawful;
+use ts_section::made_sections_are_valid;
 use ts_table_rows::{written_rows_are_whole, written_tables_are_read};
 
 /// Every valid table that is shown is read again as it was. A law; it runs nothing.
@@ -44,7 +44,7 @@ pub fn run_tables_are_of_bytes()
 }
 
 /// Every table that is read is valid, has valid descriptors, and bytes below 256. A law; it runs nothing.
-pub fn read_tables_are_lawful()
+pub fn read_tables_are_valid()
     ensures { (value : Data) (t : TableValue) → table_read value ≡ Ok t → IsTable t × IsOfBytes t }
 {
     length_of_bits();
@@ -59,7 +59,7 @@ pub fn sections_tell_their_table()
     ensures kept { (run : List (List ℕ)) → IsTableRun run → All (λ s. IsSection s) run → IsTable (table_of_run run)
         → IsKept run }
 {
-    made_sections_are_lawful();
+    made_sections_are_valid();
     written_tables_are_read();
     length_of_bits();
     read_bytes_are_spelled();

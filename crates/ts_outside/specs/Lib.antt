@@ -11,4 +11,4 @@ pub mod Entries
 pub mod Faultless
 pub mod Memory
 pub mod Found
-pub mod Steady
+pub mod Preallocated

@@ -2,8 +2,8 @@
 use Rattle.std.specs.Int.Bits.{bit_and, bit_or}
 use Rattle.std.proofs.Common.{◌≡◌, ℕ, ◌+◌, ◌-◌, ◌*◌, ◌/◌, ◌%◌, ◌^◌, ◌<◌, ◌≤◌, List, length, slice_index, sym, ◌∙◌, ap, arith}
 use Rattle.std.proofs.lemmas.Nat.{pow-add, pow_pos, shr_high, mod_low, mul-add-lt, shr_below, mod_below, shl_whole, one_shl, or_shifted, and_mask}
-use Rattle.bit_rows.specs.BitRow.{SetsField}
-use Rattle.bit_rows.proofs.Fields.{SetsField-in_byte}
+use Rattle.ts_bit_rows.specs.BitRow.{SetsField}
+use Rattle.ts_bit_rows.proofs.Fields.{SetsField-in_byte}
 use Rattle.ts_packet.specs.Header.{byte_with, row_with}
 
 module _ (byte first count value : ℕ) (inside : first + count ≤ 8) (fits : value < 2 ^ count) where

@@ -2,8 +2,8 @@
 use Rattle.std.proofs.Common.{◌≡◌, ℕ, ◌+◌, ◌*◌, ◌/◌, ◌%◌, ◌^◌, ◌<◌, true, List, [], ◌∷◌, length, slice_index, set, take, drop, Some, refl, sym, ◌∙◌, arith, append_assoc, length-set}
 use Rattle.std.proofs.lemmas.Nat.{shr-shr}
 use Rattle.std.proofs.lemmas.List.Edits.{sets, sets-eq}
-use Rattle.bit_rows.specs.BitRow.{field, SetsField}
-use Rattle.bit_rows.proofs.Fields.{field-split, field-same, field-below, field-in_byte, field-whole_byte, SetsField-join, SetsField-whole_byte}
+use Rattle.ts_bit_rows.specs.BitRow.{field, SetsField}
+use Rattle.ts_bit_rows.proofs.Fields.{field-split, field-same, field-below, field-in_byte, field-whole_byte, SetsField-join, SetsField-whole_byte}
 use Rattle.ts_packet.specs.Packet.{IsPacket}
 use Rattle.ts_packet.specs.Adaptation.{adaptation_length_of}
 use Rattle.ts_packet.specs.Pcr.{clock_of, has_pcr_of, pcr_of, clock_bytes, SetsPcr, with_pcr}

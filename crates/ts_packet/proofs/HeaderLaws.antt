@@ -1,7 +1,7 @@
 -- The rows with another PID and with another counter: each has that one field set, and nothing else changed.
 use Rattle.std.proofs.Common.{◌≡◌, ℕ, ◌+◌, ◌*◌, ◌/◌, ◌%◌, ◌<◌, List, length, arith}
-use Rattle.bit_rows.specs.BitRow.{SetsField}
-use Rattle.bit_rows.proofs.Fields.{SetsField-join, SetsField-whole_byte}
+use Rattle.ts_bit_rows.specs.BitRow.{SetsField}
+use Rattle.ts_bit_rows.proofs.Fields.{SetsField-join, SetsField-whole_byte}
 use Rattle.ts_packet.specs.Packet.{IsPacket}
 use Rattle.ts_packet.specs.Header.{row_with, with_pid, with_counter}
 use Rattle.ts_packet.proofs.Bytes.{row_with-sets}

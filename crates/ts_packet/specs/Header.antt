@@ -1,6 +1,6 @@
 -- ISO/IEC 13818-1, 2.4.3.2: the fields of the packet header, by their places in the row of bits.
 use Rattle.std.specs.Prelude.{ℕ, ◌+◌, ◌-◌, ◌*◌, ◌/◌, ◌%◌, ◌^◌, List, Bool, true, false, ◌==◌, slice_index, slice_set}
-use Rattle.bit_rows.specs.BitRow.{field}
+use Rattle.ts_bit_rows.specs.BitRow.{field}
 
 -- transport_error_indicator
 abbrev pub error_indicator_of : List ℕ → Bool

@@ -1,6 +1,6 @@
 -- ISO/IEC 13818-1, 2.4.3.5: the program clock reference, in units of the 27 MHz system clock.
 use Rattle.std.specs.Prelude.{◌≡◌, ℕ, ◌+◌, ◌*◌, ◌/◌, ◌%◌, ◌^◌, ◌<◌, ◌≤◌, List, [], ◌∷◌, length, Bool, ◌==◌, ◌&&◌, Option, Some, None, if◌then◌else◌}
-use Rattle.bit_rows.specs.BitRow.{bit_of, field}
+use Rattle.ts_bit_rows.specs.BitRow.{bit_of, field}
 use Rattle.ts_packet.specs.Adaptation.{adaptation_length_of, reaches}
 use Rattle.ts_packet.specs.Payload.{with_piece}
 

@@ -1,6 +1,6 @@
 //! The transport packet of ISO/IEC 13818-1, 2.4.3.2, and its header fields.
 ghost use Rattle.std.specs.Prelude.{◌≡◌, ◌<◌, ◌↔◌, slice_index, IfOk, IfErr, IsOk};
-ghost use Rattle.bit_rows.specs.BitRow.{SetsField};
+ghost use Rattle.ts_bit_rows.specs.BitRow.{SetsField};
 ghost use Rattle.ts_packet.specs.Packet.{IsPacket, null_packet};
 ghost use Rattle.ts_packet.specs.Header.{error_indicator_of, unit_start_of, priority_of, pid_of, scrambling_of, adaptation_control_of, counter_of, has_payload_of, flag_of, with_error_indicator, with_unit_start, with_priority, with_pid, with_scrambling, with_adaptation_control, with_counter};
 
@@ -79,7 +79,7 @@ impl Packet {
 }
 
 /// The header's fields.
-#[tactic(auto, unfolding(bit_rows::specs::BitRow::field, bit_rows::specs::BitRow::bit_of))]
+#[tactic(auto, unfolding(ts_bit_rows::specs::BitRow::field, ts_bit_rows::specs::BitRow::bit_of))]
 impl Packet {
     /// `transport_error_indicator`.
     pub fn error_indicator(&self) -> bool

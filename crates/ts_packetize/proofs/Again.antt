@@ -5,12 +5,12 @@ use Rattle.std.proofs.lemmas.Bool.Decides.{nat_tests, leb_tells}
 use Rattle.std.proofs.lemmas.List.{take_all, take-append-drop, take-take, length-replicate, replicate-append-replicate}
 use Rattle.std.proofs.Math.ListN.{drop_of_length-le}
 use Rattle.std.proofs.Math.Seq.{take-append_seam, take-append-add}
-use Rattle.bit_rows.specs.BitRow.{bit_of, field}
+use Rattle.ts_bit_rows.specs.BitRow.{bit_of, field}
 use Rattle.ts_section.specs.SectionFields.{table_id_of}
-use Rattle.ts_section.specs.LawfulSection.{IsSection}
+use Rattle.ts_section.specs.ValidSection.{IsSection}
 use Rattle.ts_section.specs.FirstBroken.{is_section}
-use Rattle.ts_section.proofs.RuleLemmas.{none_from_lawful}
-use Rattle.ts_demux.specs.Part.{Part, is_lawless, repeats, without_repeats}
+use Rattle.ts_section.proofs.RuleLemmas.{none_from_valid}
+use Rattle.ts_demux.specs.Part.{Part, is_invalid, repeats, without_repeats}
 use Rattle.ts_demux.specs.ContinuousRuns.{goes_on}
 use Rattle.ts_demux.specs.Cut.{size_in_front, is_whole_in_front}
 use Rattle.ts_demux.specs.SectionsOfParts.{sections_in, sections_of_parts}
@@ -49,27 +49,27 @@ on_from c loads = following c (parts_from ((c + 1) % 16) loads)
 same_counter : (n : ℕ) → (n == n) ≡ true
 same_counter n = grind (arith, nat_tests)
 
-goes_on-next : (c : ℕ) (load : Load) (ps : List Part) → is_lawless (part_with ((c + 1) % 16) load) ≡ false → goes_on c (part_with ((c + 1) % 16) load ∷ ps) ≡ true
+goes_on-next : (c : ℕ) (load : Load) (ps : List Part) → is_invalid (part_with ((c + 1) % 16) load) ≡ false → goes_on c (part_with ((c + 1) % 16) load ∷ ps) ≡ true
 goes_on-next c load ps e = ap (λ b. not b && ((c + 1) % 16 == (c + 1) % 16)) e ∙ same_counter ((c + 1) % 16)
 
 -- a load with unit start whose pointer points into it
 abbrev unit_load : ℕ → List ℕ → Load
 unit_load pointer bytes = record { unit_start = true; payload = pointer ∷ bytes }
 
-unit_is_lawful : (c pointer : ℕ) (bytes : List ℕ) → pointer ≤ length bytes → is_lawless (part_with c (unit_load pointer bytes)) ≡ false
-unit_is_lawful c pointer bytes h = elim (leb_tells (suc (length bytes)) pointer) as (λ _. nat_le (suc (length bytes)) pointer ≡ false) [ inl w ↦ absurd (omega (arith, w.1, h)) | inr w ↦ w.0 ]
+unit_is_valid : (c pointer : ℕ) (bytes : List ℕ) → pointer ≤ length bytes → is_invalid (part_with c (unit_load pointer bytes)) ≡ false
+unit_is_valid c pointer bytes h = elim (leb_tells (suc (length bytes)) pointer) as (λ _. nat_le (suc (length bytes)) pointer ≡ false) [ inl w ↦ absurd (omega (arith, w.1, h)) | inr w ↦ w.0 ]
 
 left_from-unit :
     (c pointer : ℕ) (bytes : List ℕ) (xs : List Load) → pointer ≤ length bytes →
     left_from c (unit_load pointer bytes ∷ xs) ≡ sections_in (drop pointer bytes ++ on_from c xs) ++ left_from ((c + 1) % 16) xs
 left_from-unit c pointer bytes xs h =
-    ap (flat_map sections_in) (all_stretches-unit (part_with c (unit_load pointer bytes)) (parts_from ((c + 1) % 16) xs) (unit_is_lawful c pointer bytes h) refl h)
+    ap (flat_map sections_in) (all_stretches-unit (part_with c (unit_load pointer bytes)) (parts_from ((c + 1) % 16) xs) (unit_is_valid c pointer bytes h) refl h)
 
 on_from-unit : (c pointer : ℕ) (bytes : List ℕ) (xs : List Load) → pointer ≤ length bytes → on_from c (unit_load pointer bytes ∷ xs) ≡ take pointer bytes
 on_from-unit c pointer bytes xs h =
     let next = (c + 1) % 16 in
     let rest = parts_from ((next + 1) % 16) xs in
-    following-unit c (part_with next (unit_load pointer bytes)) rest (goes_on-next c (unit_load pointer bytes) rest (unit_is_lawful next pointer bytes h)) (unit_is_lawful next pointer bytes h) refl h
+    following-unit c (part_with next (unit_load pointer bytes)) rest (goes_on-next c (unit_load pointer bytes) rest (unit_is_valid next pointer bytes h)) (unit_is_valid next pointer bytes h) refl h
 
 -- and one without
 abbrev plain_load : List ℕ → Load
@@ -98,8 +98,8 @@ nothing_of_fill (suc k) =
 other_number : (a b : ℕ) → a ≢ b → (a == b) ≡ false
 other_number a b h = grind (arith, nat_tests)
 
-lawful_is_section : (s : List ℕ) → IsSection s → is_section s ≡ true
-lawful_is_section s h = ap is_none (none_from_lawful s h)
+valid_is_section : (s : List ℕ) → IsSection s → is_section s ≡ true
+valid_is_section s h = ap is_none (none_from_valid s h)
 
 -- a section followed by anything gives the section first
 section_first : (s more : List ℕ) → IsSection s → sections_in (s ++ more) ≡ s ∷ sections_in more
@@ -111,7 +111,7 @@ section_first s more h =
     sections_in-step s more whole
     ∙ ap (λ t. filter is_section (t ∷ []) ++ sections_in (drop (size_in_front s) s ++ more)) front
     ∙ ap (λ t. filter is_section (s ∷ []) ++ sections_in (t ++ more)) behind
-    ∙ ap (λ t. t ++ sections_in more) (if_true (is_section s) (s ∷ []) [] (lawful_is_section s h))
+    ∙ ap (λ t. t ++ sections_in more) (if_true (is_section s) (s ∷ []) [] (valid_is_section s h))
 
 -- sections followed by stuffing bytes give the sections
 sections_first : (ss : List (List ℕ)) (k : ℕ) → AllByRecursion (λ s. IsSection s) ss → sections_in (joined ss ++ replicate k 0xFF) ≡ ss
@@ -148,13 +148,13 @@ goes_on_with rest k = elim (le_or_lt 184 (length rest)) as (λ _. (j : ℕ) × (
 ]
 
 -- the bytes after the pointer of a load that begins sections
-behind_pointer : List ℕ → List (List ℕ) → List ℕ
-behind_pointer rest ss = take (183 - length rest) (joined ss) ++ replicate (184 - suc (length (take 183 (rest ++ joined ss)))) 0xFF
+after_pointer : List ℕ → List (List ℕ) → List ℕ
+after_pointer rest ss = take (183 - length rest) (joined ss) ++ replicate (184 - suc (length (take 183 (rest ++ joined ss)))) 0xFF
 
 begins_load :
     (rest : List ℕ) (ss : List (List ℕ)) → length rest < 183 →
-    filled (length rest ∷ take 183 (rest ++ joined ss)) ≡ length rest ∷ (rest ++ behind_pointer rest ss)
-unfolding behind_pointer
+    filled (length rest ∷ take 183 (rest ++ joined ss)) ≡ length rest ∷ (rest ++ after_pointer rest ss)
+unfolding after_pointer
 begins_load rest ss h =
     let k = 184 - suc (length (take 183 (rest ++ joined ss))) in
     let n : 183 ≡ length rest + (183 - length rest) = omega (arith, h) in
@@ -172,8 +172,8 @@ fill-count rest ss h full = omega (arith, h, full, length-take 183 (rest ++ join
 -- what stands after the pointer, and what continues, give the sections that have begun
 begins_sections :
     (rest : List ℕ) (ss : List (List ℕ)) (j : ℕ) → length rest < 183 → AllByRecursion (λ s. IsSection s) (begun (183 - length rest) ss) →
-    sections_in (behind_pointer rest ss ++ (missing (183 - length rest) ss ++ replicate j 0xFF)) ≡ begun (183 - length rest) ss
-unfolding behind_pointer
+    sections_in (after_pointer rest ss ++ (missing (183 - length rest) ss ++ replicate j 0xFF)) ≡ begun (183 - length rest) ss
+unfolding after_pointer
 begins_sections rest ss j h all =
     let room = 183 - length rest in
     let front = take room (joined ss) in
@@ -223,21 +223,21 @@ packed-begins :
 packed-begins c xs rest ss h all more =
     let next = (c + 1) % 16 in
     let room = 183 - length rest in
-    let body = rest ++ behind_pointer rest ss in
+    let body = rest ++ after_pointer rest ss in
     let is = begins_load rest ss h in
     let out = lays_out room ss in
-    let within : length rest ≤ length body = omega (arith, length-append rest (behind_pointer rest ss)) in
-    let lawful = all_front (begun room ss) (not_begun room ss) (subst (AllByRecursion (λ s. IsSection s)) out.sections all) in (
+    let within : length rest ≤ length body = omega (arith, length-append rest (after_pointer rest ss)) in
+    let valid = all_front (begun room ss) (not_begun room ss) (subst (AllByRecursion (λ s. IsSection s)) out.sections all) in (
       0,
       ap (λ t. on_from c ((let load : Load = record { unit_start = true; payload = t } in load) ∷ xs)) is
           ∙ on_from-unit c (length rest) body xs within
-          ∙ take-append_seam rest (behind_pointer rest ss)
+          ∙ take-append_seam rest (after_pointer rest ss)
           ∙ sym (append-nil rest),
       ap (λ t. left_from next ((let load : Load = record { unit_start = true; payload = t } in load) ∷ xs)) is
           ∙ left_from-unit next (length rest) body xs within
-          ∙ ap (λ t. sections_in (t ++ on_from next xs) ++ left_from ((next + 1) % 16) xs) (drop-seam rest (behind_pointer rest ss))
-          ∙ ap (λ t. sections_in (behind_pointer rest ss ++ t) ++ left_from ((next + 1) % 16) xs) more.1
-          ∙ ap (λ t. t ++ left_from ((next + 1) % 16) xs) (begins_sections rest ss more.0 h lawful)
+          ∙ ap (λ t. sections_in (t ++ on_from next xs) ++ left_from ((next + 1) % 16) xs) (drop-seam rest (after_pointer rest ss))
+          ∙ ap (λ t. sections_in (after_pointer rest ss ++ t) ++ left_from ((next + 1) % 16) xs) more.1
+          ∙ ap (λ t. t ++ left_from ((next + 1) % 16) xs) (begins_sections rest ss more.0 h valid)
           ∙ ap (λ t. begun room ss ++ t) more.2
           ∙ sym out.sections,
     )
@@ -265,11 +265,11 @@ pack-zero : (rest : List ℕ) (ss : List (List ℕ)) → pack 0 rest ss ≡ []
 unfolding pack
 pack-zero rest ss = refl
 
-lawful_begun : (rest : List ℕ) (ss : List (List ℕ)) → AllByRecursion (λ s. IsSection s) ss → AllByRecursion (λ s. IsSection s) (begun_by rest ss)
-lawful_begun rest ss all = all_front (begun_by rest ss) (next_step rest ss).sections (subst (AllByRecursion (λ s. IsSection s)) (step-sections rest ss (goes_on_alone rest ss) refl) all)
+valid_begun : (rest : List ℕ) (ss : List (List ℕ)) → AllByRecursion (λ s. IsSection s) ss → AllByRecursion (λ s. IsSection s) (begun_by rest ss)
+valid_begun rest ss all = all_front (begun_by rest ss) (next_step rest ss).sections (subst (AllByRecursion (λ s. IsSection s)) (step-sections rest ss (goes_on_alone rest ss) refl) all)
 
-lawful_left : (rest : List ℕ) (ss : List (List ℕ)) → AllByRecursion (λ s. IsSection s) ss → AllByRecursion (λ s. IsSection s) (next_step rest ss).sections
-lawful_left rest ss all = all_back (begun_by rest ss) (next_step rest ss).sections (subst (AllByRecursion (λ s. IsSection s)) (step-sections rest ss (goes_on_alone rest ss) refl) all)
+valid_left : (rest : List ℕ) (ss : List (List ℕ)) → AllByRecursion (λ s. IsSection s) ss → AllByRecursion (λ s. IsSection s) (next_step rest ss).sections
+valid_left rest ss all = all_back (begun_by rest ss) (next_step rest ss).sections (subst (AllByRecursion (λ s. IsSection s)) (step-sections rest ss (goes_on_alone rest ss) refl) all)
 
 packed-or_done :
     (n c : ℕ) (rest : List ℕ) (ss : List (List ℕ)) (end : Bool) → is_done rest ss ≡ end → AllByRecursion (λ s. IsSection s) ss →
@@ -287,7 +287,7 @@ packed_is zero c rest ss h all = packed-none c (pack 0 rest ss) rest ss (pack-ze
 packed_is (suc n) c rest ss h all =
     packed-or_done n c rest ss (is_done rest ss) refl all
     (λ e. packed_is n ((c + 1) % 16) (next_step rest ss).rest (next_step rest ss).sections
-    (omega (arith, h, step-shorter rest ss (goes_on_alone rest ss) refl e (lawful_begun rest ss all))) (lawful_left rest ss all))
+    (omega (arith, h, step-shorter rest ss (goes_on_alone rest ss) refl e (valid_begun rest ss all))) (valid_left rest ss all))
 
 -- demultiplexed, the packets of some sections are the sections again
 pub sections_of_pid-packets_of :

@@ -52,8 +52,8 @@ filled-first m bytes h k all =
     ]
 
 -- and what is left of them is what is left after a full payload
-pub left_behind : (m most : ℕ) (bytes : List ℕ) → m ≤ most → (m < most → m ≡ length bytes) → drop m bytes ≡ drop most bytes
-left_behind m most bytes h all =
+pub left_after : (m most : ℕ) (bytes : List ℕ) → m ≤ most → (m < most → m ≡ length bytes) → drop m bytes ≡ drop most bytes
+left_after m most bytes h all =
     elim (le_or_lt most m) as (λ _. drop m bytes ≡ drop most bytes) [
       | inl l ↦ (let e : m ≡ most = omega arith in ap (λ n. drop n bytes) e)
       | inr l ↦

@@ -3,7 +3,7 @@
 ghost use Rattle.std.specs.Prelude.{◌≡◌, ◌%◌, ◌<◌, false, length, IfOk, OnOk};
 ghost use Rattle.std.specs.List.{AllByRecursion};
 ghost use Rattle.ts_demux.specs.SectionsOfPid.{sections_of_pid};
-ghost use Rattle.ts_section.specs.LawfulSection.{IsSection};
+ghost use Rattle.ts_section.specs.ValidSection.{IsSection};
 ghost use Rattle.ts_packetize.specs.Packing.{next_step};
 ghost use Rattle.ts_packetize.specs.Packing as packing;
 ghost use Rattle.ts_packetize.specs.Packets.{packets_of, packet_with};
@@ -36,8 +36,8 @@ pub fn packets(alloc: Global, pid: u16, sections: &[Section]) -> Result<PacketLi
     while !is_done(rest, waiting) {
         let counter = next_counter(&packets);
         packets.push(next_packet(pid, counter, rest, waiting, &mut load)?)?;
-        let behind = rest_behind(rest, waiting);
-        waiting = sections_behind(rest, waiting);
+        let behind = rest_after(rest, waiting);
+        waiting = sections_after(rest, waiting);
         rest = behind;
     }
     Ok(PacketList::of(packets))
@@ -54,7 +54,7 @@ fn next_packet(
     requires pid { pid < NULL_PID }
     requires counter { counter < 16 }
     ensures packet { IfOk result (λ packet. packet ≡ packet_with pid counter (next_step rest.now waiting.now).load) }
-    ensures lawful { OnOk result (AllByRecursion (λ s. IsSection s) (begun_by rest.now waiting.now)) }
+    ensures valid { OnOk result (AllByRecursion (λ s. IsSection s) (begun_by rest.now waiting.now)) }
 {
     if goes_on_alone(rest, waiting) {
         let piece = &rest[..rest.len().min(PAYLOAD_SIZE)];
@@ -68,7 +68,7 @@ fn next_packet(
 }
 
 /// The bytes that are left after the next packet.
-fn rest_behind<'a>(rest: &'a [u8], waiting: &'a [Section]) -> &'a [u8]
+fn rest_after<'a>(rest: &'a [u8], waiting: &'a [Section]) -> &'a [u8]
     ensures { result.now ≡ (next_step rest.now waiting.now).rest }
 {
     if goes_on_alone(rest, waiting) {
@@ -78,7 +78,7 @@ fn rest_behind<'a>(rest: &'a [u8], waiting: &'a [Section]) -> &'a [u8]
 }
 
 /// The sections that wait after the next packet.
-fn sections_behind<'a>(rest: &[u8], waiting: &'a [Section]) -> &'a [Section]
+fn sections_after<'a>(rest: &[u8], waiting: &'a [Section]) -> &'a [Section]
     ensures { result.now ≡ (next_step rest.now waiting.now).sections }
 {
     if goes_on_alone(rest, waiting) {

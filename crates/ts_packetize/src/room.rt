@@ -2,7 +2,7 @@
 
 ghost use Rattle.std.specs.Prelude.{◌≡◌, ◌++◌, length, take, OnOk};
 ghost use Rattle.std.specs.List.{AllByRecursion};
-ghost use Rattle.ts_section.specs.LawfulSection.{IsSection};
+ghost use Rattle.ts_section.specs.ValidSection.{IsSection};
 ghost use Rattle.ts_packetize.specs.Packing.{joined};
 ghost use Rattle.ts_packetize.specs.Packing as packing;
 ghost use Rattle.ts_packetize.specs.Begun.{begun};
@@ -13,7 +13,7 @@ use ts_section::Section;
 /// Appends sections to the load, as far as there is room for their bytes.
 pub(crate) fn lay(waiting: &[Section], room: usize, load: &mut Vec<u8>) -> Result<(), AllocError>
     ensures laid { OnOk result (load.new.items ≡ load.old.items ++ take room (joined waiting.now)) }
-    ensures lawful { OnOk result (AllByRecursion (λ s. IsSection s) (begun room waiting.now)) }
+    ensures valid { OnOk result (AllByRecursion (λ s. IsSection s) (begun room waiting.now)) }
 {
     let Some((first, others)) = waiting.split_first() else {
         return Ok(());

@@ -6,9 +6,9 @@ use Rattle.std.specs.Int.Bits.{xor_assoc, xor_self, xor_zero_l, xor_zero_r}
 use Rattle.std.proofs.Math.Nat.{mul_comm, add_comm}
 use Rattle.std.proofs.lemmas.Nat.{pow_pos, pow-add, xor_comm, xor_lt, xor_mod, xor_block, shl_below}
 use Rattle.std.proofs.lemmas.Nat.Bits.{bit_at-lt}
-use Rattle.bit_rows.specs.BitRow.{field}
-use Rattle.bit_rows.proofs.Fields.{field-below, field-split, field-whole_byte}
-use Rattle.bit_rows.proofs.RowParts.{field-append_left, field-append_right}
+use Rattle.ts_bit_rows.specs.BitRow.{field}
+use Rattle.ts_bit_rows.proofs.Fields.{field-below, field-split, field-whole_byte}
+use Rattle.ts_bit_rows.proofs.RowParts.{field-append_left, field-append_right}
 use Rattle.ts_section.specs.Crc.{polynomial, remainder, divided_row, crc_of}
 use Rattle.ts_section.proofs.Division.{reduced, remainder-zero, remainder-suc, remainder-xor, remainder-front, remainder-small, remainder-lt, remainder-shift, xor-shift}
 

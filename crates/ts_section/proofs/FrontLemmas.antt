@@ -3,12 +3,12 @@ use Rattle.std.proofs.Common.{◌≡◌, ℕ, ◌+◌, ◌-◌, ◌<◌, ◌≤�
 use Rattle.std.specs.Prelude.{if◌then◌else◌, Option, nat_lt, ◌==◌}
 use Rattle.std.proofs.lemmas.Bool.{ltb-true}
 use Rattle.std.proofs.lemmas.List.{length-take, take_all}
-use Rattle.bit_rows.proofs.RowParts.{field-take}
+use Rattle.ts_bit_rows.proofs.RowParts.{field-take}
 use Rattle.ts_section.specs.Crc.{crc_of}
 use Rattle.ts_section.specs.SectionFields.{table_id_of, is_long, section_length_of, number_of, last_number_of, crc_field_of, front_of}
 use Rattle.ts_section.specs.FirstBroken.{first_broken, first_broken_long}
 use Rattle.ts_section.specs.declared.fault.SectionFault.{SectionFault}
-use Rattle.ts_section.specs.declared.fault.SectionFault.TheVariants.{Lawless}
+use Rattle.ts_section.specs.declared.fault.SectionFault.TheVariants.{Invalid}
 use Rattle.ts_section.specs.declared.fault.SectionRule.TheVariants.{Trailing}
 
 pub front-all : (b : List ℕ) → length b ≤ 3 + section_length_of b → b ≡ front_of b
@@ -26,7 +26,7 @@ if_by P false c x y is good other = other is
 
 -- the rule about bytes after the end
 abbrev Trails : Option SectionFault → Type 0
-Trails o = o ≡ Some (Lawless Trailing)
+Trails o = o ≡ Some (Invalid Trailing)
 
 long_not_trailing : (b : List ℕ) → Trails (first_broken_long b) → ⊥
 unfolding first_broken_long

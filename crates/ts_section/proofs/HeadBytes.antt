@@ -6,12 +6,12 @@ use Rattle.std.specs.Prelude.{bit_and}
 use Rattle.std.proofs.lemmas.Bool.{cases_lt}
 use Rattle.std.proofs.lemmas.List.{get_or-drop, get_or_past, drop-take}
 use Rattle.std.proofs.lemmas.List.Elements.{All-get_or}
-use Rattle.bit_rows.specs.BitRow.{bit_of, field}
-use Rattle.bit_rows.proofs.Fields as rows
-use Rattle.bit_rows.proofs.Fields.{field-split, field-whole_byte}
+use Rattle.ts_bit_rows.specs.BitRow.{bit_of, field}
+use Rattle.ts_bit_rows.proofs.Fields as rows
+use Rattle.ts_bit_rows.proofs.Fields.{field-split, field-whole_byte}
 use Rattle.ts_section.specs.SectionFields.{is_long, head_fields, head_of, body_of}
 use Rattle.ts_section.specs.declared.long_head.LongHead.{LongHead}
-use Rattle.ts_section.specs.LawfulSection.{IsSection}
+use Rattle.ts_section.specs.ValidSection.{IsSection}
 
 -- each member of a row is a byte
 abbrev pub IsBytes : List ℕ → Type 0
@@ -69,8 +69,8 @@ IsBytes-drop n b small = λ i. rw (get_or-drop n b i 0) (small (n + i))
 
 -- the bytes of a valid section
 pub IsBytes-section : (b : List ℕ) → IsSection b → IsBytes b
-IsBytes-section b lawful = λ i. elim (cases_lt i (length b)) [
-  | inl inside ↦ All-get_or (λ x. x < 256) b i 0 inside lawful.bytes
+IsBytes-section b valid = λ i. elim (cases_lt i (length b)) [
+  | inl inside ↦ All-get_or (λ x. x < 256) b i 0 inside valid.bytes
   | inr past ↦ rw (get_or_past b i 0 past) (omega arith)
 ]
 
@@ -111,4 +111,4 @@ long_head b head form same = ap (λ h. Some h) same ∙ rw form refl
 
 -- the long form has room for its head and its CRC
 pub long_size : (b : List ℕ) → IsSection b → is_long b ≡ true → 12 ≤ length b
-long_size b lawful form = omega (arith, lawful.whole, (lawful.long form).room)
+long_size b valid form = omega (arith, valid.whole, (valid.long form).room)

@@ -1,11 +1,11 @@
 -- Worked rows: the definitions computed.
 use Rattle.std.proofs.Common.{◌≡◌, ℕ, List, ◌∷◌, [], Some, None, true, false, refl}
-use Rattle.bit_rows.specs.BitRow.{bit_of, field}
+use Rattle.ts_bit_rows.specs.BitRow.{bit_of, field}
 use Rattle.ts_section.specs.Crc.{remainder, divided_row, crc_of}
 use Rattle.ts_section.specs.SectionFields.{front_of}
 use Rattle.ts_section.specs.WrittenSection.{long_section}
 use Rattle.ts_section.specs.FirstBroken.{first_broken, first_broken_long}
-use Rattle.ts_section.specs.declared.fault.SectionFault.TheVariants.{Short, Lawless, TooLong}
+use Rattle.ts_section.specs.declared.fault.SectionFault.TheVariants.{Short, Invalid, TooLong}
 use Rattle.ts_section.specs.declared.fault.SectionRule.TheVariants.{Stuffing}
 
 -- the published check value of this CRC: that of the text 123456789
@@ -22,9 +22,9 @@ unfolding cat crc_of divided_row remainder field bit_of
 of-cat = refl
 
 -- and breaks no rule
-cat-lawful : first_broken cat ≡ None
+cat-valid : first_broken cat ≡ None
 unfolding cat first_broken first_broken_long crc_of divided_row remainder field bit_of
-cat-lawful = refl
+cat-valid = refl
 
 -- a length of 4094
 too-long : first_broken (0x00 ∷ 0xBF ∷ 0xFE ∷ []) ≡ Some (TooLong 4094)
@@ -32,7 +32,7 @@ unfolding first_broken first_broken_long crc_of divided_row remainder field bit_
 too-long = refl
 
 -- stuffing
-stuffing : first_broken (0xFF ∷ 0x30 ∷ 0x00 ∷ []) ≡ Some (Lawless Stuffing)
+stuffing : first_broken (0xFF ∷ 0x30 ∷ 0x00 ∷ []) ≡ Some (Invalid Stuffing)
 unfolding first_broken first_broken_long crc_of divided_row remainder field bit_of
 stuffing = refl
 

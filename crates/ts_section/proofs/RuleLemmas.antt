@@ -7,9 +7,9 @@ use Rattle.std.proofs.lemmas.List.{take-append-drop, length-drop}
 use Rattle.ts_section.specs.Crc.{crc_of}
 use Rattle.ts_section.specs.SectionFields.{table_id_of, is_long, section_length_of, number_of, last_number_of, crc_field_of}
 use Rattle.ts_section.specs.FirstBroken.{first_broken, first_broken_long}
-use Rattle.ts_section.specs.LawfulSection.{IsSection}
+use Rattle.ts_section.specs.ValidSection.{IsSection}
 use Rattle.ts_section.specs.declared.fault.SectionFault.{SectionFault}
-use Rattle.ts_section.specs.declared.fault.SectionFault.TheVariants.{Short, Lawless, TooLong, BadCrc}
+use Rattle.ts_section.specs.declared.fault.SectionFault.TheVariants.{Short, Invalid, TooLong, BadCrc}
 use Rattle.ts_section.specs.declared.fault.SectionRule.TheVariants.{Stuffing, Trailing, ShortLong, Numbers}
 use Rattle.ts_section.proofs.CrcLemmas.{crc_of-own, crc_of-zero}
 
@@ -20,7 +20,7 @@ pub short_head-broken : (b : List ℕ) → length b < 3 → first_broken b ≡ S
 unfolding first_broken
 short_head-broken b few = rw (lt-ltb (length b) 3 few) refl
 
-pub stuffing-broken : (b : List ℕ) → 3 ≤ length b → table_id_of b ≡ 255 → first_broken b ≡ Some (Lawless Stuffing)
+pub stuffing-broken : (b : List ℕ) → 3 ≤ length b → table_id_of b ≡ 255 → first_broken b ≡ Some (Invalid Stuffing)
 unfolding first_broken
 stuffing-broken b head stuffed = rw (le-ltb (length b) 3 head, eq-eqb (table_id_of b) 255 stuffed) refl
 
@@ -33,7 +33,7 @@ unfolding first_broken
 short-broken b head id range few =
     rw (le-ltb (length b) 3 head, ne-eqb (table_id_of b) 255 id, le-ltb 4093 (section_length_of b) range, lt-ltb (length b) (3 + section_length_of b) few) refl
 
-pub trailing-broken : (b : List ℕ) → 3 ≤ length b → table_id_of b ≢ 255 → section_length_of b ≤ 4093 → 3 + section_length_of b < length b → first_broken b ≡ Some (Lawless Trailing)
+pub trailing-broken : (b : List ℕ) → 3 ≤ length b → table_id_of b ≢ 255 → section_length_of b ≤ 4093 → 3 + section_length_of b < length b → first_broken b ≡ Some (Invalid Trailing)
 unfolding first_broken
 trailing-broken b head id range many =
     rw (
@@ -68,11 +68,11 @@ long_form-broken b id range whole form =
       form,
     ) refl
 
-pub short_long-broken : (b : List ℕ) → section_length_of b < 9 → first_broken_long b ≡ Some (Lawless ShortLong)
+pub short_long-broken : (b : List ℕ) → section_length_of b < 9 → first_broken_long b ≡ Some (Invalid ShortLong)
 unfolding first_broken_long
 short_long-broken b few = rw (lt-ltb (section_length_of b) 9 few) refl
 
-pub numbers-broken : (b : List ℕ) → 9 ≤ section_length_of b → last_number_of b < number_of b → first_broken_long b ≡ Some (Lawless Numbers)
+pub numbers-broken : (b : List ℕ) → 9 ≤ section_length_of b → last_number_of b < number_of b → first_broken_long b ≡ Some (Invalid Numbers)
 unfolding first_broken_long
 numbers-broken b room above = rw (le-ltb (section_length_of b) 9 room, lt-ltb (last_number_of b) (number_of b) above) refl
 
@@ -114,29 +114,29 @@ head_there : (b : List ℕ) → first_broken b ≡ None → 3 ≤ length b
 head_there b none =
     elim (cases_lt (length b) 3) [ inl few ↦ absurd (fault_and_none (first_broken b) _ (short_head-broken b few) none) | inr head ↦ head ]
 
-lawful_id : (b : List ℕ) → first_broken b ≡ None → table_id_of b ≢ 255
-lawful_id b none = λ stuffed. fault_and_none (first_broken b) _ (stuffing-broken b (head_there b none) stuffed) none
+valid_id : (b : List ℕ) → first_broken b ≡ None → table_id_of b ≢ 255
+valid_id b none = λ stuffed. fault_and_none (first_broken b) _ (stuffing-broken b (head_there b none) stuffed) none
 
 in_range : (b : List ℕ) → first_broken b ≡ None → section_length_of b ≤ 4093
 in_range b none =
     elim (cases_lt 4093 (section_length_of b)) [
-      | inl much ↦ absurd (fault_and_none (first_broken b) _ (too_long-broken b (head_there b none) (lawful_id b none) much) none)
+      | inl much ↦ absurd (fault_and_none (first_broken b) _ (too_long-broken b (head_there b none) (valid_id b none) much) none)
       | inr range ↦ range
     ]
 
 whole : (b : List ℕ) → first_broken b ≡ None → length b ≡ 3 + section_length_of b
 whole b none =
     elim (cases_lt (length b) (3 + section_length_of b)) [
-      | inl few ↦ absurd (fault_and_none (first_broken b) _ (short-broken b (head_there b none) (lawful_id b none) (in_range b none) few) none)
+      | inl few ↦ absurd (fault_and_none (first_broken b) _ (short-broken b (head_there b none) (valid_id b none) (in_range b none) few) none)
       | inr enough ↦
           elim (cases_lt (3 + section_length_of b) (length b)) [
-            | inl many ↦ absurd (fault_and_none (first_broken b) _ (trailing-broken b (head_there b none) (lawful_id b none) (in_range b none) many) none)
+            | inl many ↦ absurd (fault_and_none (first_broken b) _ (trailing-broken b (head_there b none) (valid_id b none) (in_range b none) many) none)
             | inr most ↦ omega arith
           ]
     ]
 
 long_none : (b : List ℕ) → first_broken b ≡ None → is_long b ≡ true → first_broken_long b ≡ None
-long_none b none form = sym (long_form-broken b (lawful_id b none) (in_range b none) (whole b none) form) ∙ none
+long_none b none form = sym (long_form-broken b (valid_id b none) (in_range b none) (whole b none) form) ∙ none
 
 long_room : (b : List ℕ) → first_broken_long b ≡ None → 9 ≤ section_length_of b
 long_room b none =
@@ -157,11 +157,11 @@ long_crc b none =
     ]
 
 -- a row of bytes without a broken rule is a valid section
-pub lawful_from_none : (b : List ℕ) → All (λ x. x < 256) b → first_broken b ≡ None → IsSection b
-lawful_from_none b bytes none =
+pub valid_from_none : (b : List ℕ) → All (λ x. x < 256) b → first_broken b ≡ None → IsSection b
+valid_from_none b bytes none =
     record {
       bytes = bytes;
-      no_stuffing = lawful_id b none;
+      no_stuffing = valid_id b none;
       in_range = in_range b none;
       whole = whole b none;
       long = λ form. record {
@@ -175,12 +175,12 @@ lawful_from_none b bytes none =
     long_size b none form = omega (arith, whole b none, long_room b (long_none b none form))
 
 -- in a valid section no rule is broken
-pub none_from_lawful : (b : List ℕ) → IsSection b → first_broken b ≡ None
-none_from_lawful b lawful =
+pub none_from_valid : (b : List ℕ) → IsSection b → first_broken b ≡ None
+none_from_valid b valid =
     elim (cases_Bool (is_long b)) [
       | inl form ↦
-          long_form-broken b lawful.no_stuffing lawful.in_range lawful.whole form
-          ∙ good_crc-broken b (lawful.long form).room (lawful.long form).numbers
-          (field_crc b (omega (arith, lawful.whole, (lawful.long form).room)) (lawful.long form).crc)
-      | inr form ↦ short_form-broken b lawful.no_stuffing lawful.in_range lawful.whole form
+          long_form-broken b valid.no_stuffing valid.in_range valid.whole form
+          ∙ good_crc-broken b (valid.long form).room (valid.long form).numbers
+          (field_crc b (omega (arith, valid.whole, (valid.long form).room)) (valid.long form).crc)
+      | inr form ↦ short_form-broken b valid.no_stuffing valid.in_range valid.whole form
     ]

@@ -3,7 +3,7 @@ use Rattle.std.proofs.Common.{◌≡◌, ℕ, ◌+◌, ◌<◌, List, [], ◌∷
 use Rattle.std.proofs.lemmas.Bool.{cases_Bool, false≢true}
 use Rattle.std.proofs.lemmas.List.{get_or-take, length-take}
 use Rattle.ts_section.specs.SectionFields.{is_long, head_fields, last_number_of}
-use Rattle.ts_section.specs.LawfulSection.{IsSection}
+use Rattle.ts_section.specs.ValidSection.{IsSection}
 use Rattle.ts_section.specs.SectionRun.{stands_alone, IsMember, SharesHead, AllMembers, BeginsRun, IsTableRun, IsRunFault}
 use Rattle.ts_section.specs.declared.long_head.LongHead.{LongHead}
 
@@ -92,7 +92,7 @@ together_long s together =
 
 -- a member by the first section's head
 pub member_from_head : (first s : List ℕ) (head : LongHead) (place : ℕ) → head ≡ head_fields first → IsSection s → SharesHead head place s → IsMember first place s
-member_from_head first s head place head_is lawful shares =
+member_from_head first s head place head_is valid shares =
     let moved : SharesHead (head_fields first) place s = subst (λ h. SharesHead h place s) head_is shares in
     record {
       together = moved.together;
@@ -102,7 +102,7 @@ member_from_head first s head place head_is lawful shares =
       same_current = moved.same_current;
       same_last = moved.same_last;
       numbered = moved.numbered;
-      counted = omega (arith, moved.numbered, moved.same_last, (lawful.long (together_long s moved.together)).numbers);
+      counted = omega (arith, moved.numbered, moved.same_last, (valid.long (together_long s moved.together)).numbers);
     }
 
 pub head_from_member : (first s : List ℕ) (head : LongHead) (place : ℕ) → head ≡ head_fields first → IsMember first place s → SharesHead head place s

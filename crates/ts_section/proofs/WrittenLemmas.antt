@@ -6,8 +6,8 @@ use Rattle.std.proofs.Math.Seq.{take-append_seam, drop-append_seam}
 use Rattle.std.proofs.lemmas.Bool.{false≢true}
 use Rattle.std.proofs.lemmas.Nat.{or_shifted}
 use Rattle.std.proofs.lemmas.List.Elements.{All-from_get_or, All-append}
-use Rattle.bit_rows.specs.BitRow.{bit_of, field}
-use Rattle.bit_rows.proofs.RowParts.{bit_of-append_left, bit_of-append_right, field-append_left, field-append_right}
+use Rattle.ts_bit_rows.specs.BitRow.{bit_of, field}
+use Rattle.ts_bit_rows.proofs.RowParts.{bit_of-append_left, bit_of-append_right, field-append_left, field-append_right}
 use Rattle.ts_section.specs.Crc.{crc_of}
 use Rattle.ts_section.specs.SectionFields.{table_id_of, private_of, is_long, section_length_of, number_of, last_number_of, head_fields, body_of}
 use Rattle.ts_section.specs.WrittenSection.{bit_value, first_three, next_five, four_bytes, long_section, short_section, IsLongSectionOf, IsShortSectionOf}
@@ -104,13 +104,13 @@ long_bytes-are head high low joined c small_high small_low small_number small_la
 
 -- a short section of its two parts
 parts_short : (id : ℕ) («private» : Bool) (len : ℕ) (a body : List ℕ) → AreFirstBytes id false «private» len a → All (λ x. x < 256) body → id < 255 → len ≡ length body → len ≤ 4093 → IsShortSectionOf id «private» body (a ++ body)
-parts_short id «private» len a body first bytes lawful_id len_is range =
+parts_short id «private» len a body first bytes valid_id len_is range =
     let three : length a ≡ 3 = first.three in
     let id_is : table_id_of (a ++ body) ≡ id = field-append_left a body 0 8 (omega arith) ∙ first.same_id in
     let length_is : section_length_of (a ++ body) ≡ len = field-append_left a body 12 12 (omega arith) ∙ first.same_length in
     let form : is_long (a ++ body) ≡ false = ap (λ n. eqb n 1) (bit_of-append_left a body 8 (omega arith)) ∙ first.same_form in
     record {
-      lawful = record {
+      valid = record {
         bytes = All-append (λ x. x < 256) a body first.bytes bytes;
         no_stuffing = λ same. absurd (omega (arith, same));
         in_range = omega arith;
@@ -165,7 +165,7 @@ long_body_is front body k eight four form =
 
 -- a long section of its four parts
 parts_long : (head : LongHead) (len : ℕ) (a r body k : List ℕ) → AreFirstBytes head.table_id true head.private len a → AreLongBytes head r → All (λ x. x < 256) body → All (λ x. x < 256) k → length k ≡ 4 → field k 0 32 ≡ crc_of ((a ++ r) ++ body) → head.table_id < 255 → head.number ≤ head.last → len ≡ 9 + length body → length body ≤ 4084 → IsLongSectionOf head body (((a ++ r) ++ body) ++ k)
-parts_long head len a r body k first second body_bytes k_bytes four own lawful_id numbers len_is room =
+parts_long head len a r body k first second body_bytes k_bytes four own valid_id numbers len_is room =
     let eight : length (a ++ r) ≡ 8 = omega (arith, length-append a r, first.three, second.five) in
     let rest : ((a ++ r) ++ body) ++ k ≡ (a ++ r) ++ (body ++ k) = append_assoc (a ++ r) body k in
     let head_is : head_fields (((a ++ r) ++ body) ++ k) ≡ head = ap head_fields rest ∙ long_head_is head a r (body ++ k) len first second eight in
@@ -177,7 +177,7 @@ parts_long head len a r body k first second body_bytes k_bytes four own lawful_i
     let form : is_long (((a ++ r) ++ body) ++ k) ≡ true =
     ap is_long rest ∙ ap (λ n. eqb n 1) (bit_of-append_left (a ++ r) (body ++ k) 8 (omega arith) ∙ bit_of-append_left a r 8 (omega (arith, first.three))) ∙ first.same_form in
     record {
-      lawful = record {
+      valid = record {
         bytes = All-append (λ x. x < 256) ((a ++ r) ++ body) k (All-append (λ x. x < 256) (a ++ r) body (All-append (λ x. x < 256) a r first.bytes second.bytes) body_bytes) k_bytes;
         no_stuffing = λ same. absurd (omega (arith, same));
         in_range = omega arith;
@@ -249,14 +249,14 @@ next_five-made head high low c small c_is high_is low_is range =
 -- what a short section is
 pub short_section-is : (id : ℕ) («private» : Bool) (body : List ℕ) → id < 255 → All (λ x. x < 256) body → length body ≤ 4093 → IsShortSectionOf id «private» body (short_section id «private» body)
 unfolding short_section
-short_section-is id «private» body lawful_id bytes range =
+short_section-is id «private» body valid_id bytes range =
     parts_short id «private» (length body) (first_three id false «private» (length body)) body
-    (first_three-are id (length body) false «private» (omega arith) (omega arith)) bytes lawful_id refl range
+    (first_three-are id (length body) false «private» (omega arith) (omega arith)) bytes valid_id refl range
 
 -- what a long section is
 pub long_section-is : (head : LongHead) (body : List ℕ) → head.table_id < 255 → head.extension < 65536 → head.version < 32 → head.number ≤ head.last → head.last < 256 → All (λ x. x < 256) body → length body ≤ 4084 → IsLongSectionOf head body (long_section head body)
 unfolding long_section
-long_section-is head body lawful_id extension version numbers last bytes room =
+long_section-is head body valid_id extension version numbers last bytes room =
     let a = first_three head.table_id true head.private (9 + length body) in
     let r = next_five head in
     let register = crc_of ((a ++ r) ++ body) in
@@ -266,7 +266,7 @@ long_section-is head body lawful_id extension version numbers last bytes room =
     (four_small (register / 16777216 % 256) (register / 65536 % 256) (register / 256 % 256) (register % 256) (omega arith) (omega arith) (omega arith) (omega arith)) in
     parts_long head (9 + length body) a r body (four_bytes register)
     (first_three-are head.table_id (9 + length body) true head.private (omega arith) (omega arith))
-    (next_five-are head extension version (omega arith) last) bytes k_bytes refl (four_bytes-field register small) lawful_id numbers refl room
+    (next_five-are head extension version (omega arith) last) bytes k_bytes refl (four_bytes-field register small) valid_id numbers refl room
 
 -- a short section as the code fills it
 pub short_made : (id : ℕ) («private» : Bool) (a body none one two : List ℕ) → none ≡ [] → one ≡ none ++ a → two ≡ one ++ body → a ≡ first_three id false «private» (length body) → two ≡ short_section id «private» body

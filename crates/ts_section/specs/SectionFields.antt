@@ -1,7 +1,7 @@
 -- The fields of a section.
 -- ISO/IEC 13818-1, 2.4.4.10 and 2.4.4.11 (private_section), whose head all tables share.
 use Rattle.std.specs.Prelude.{ℕ, ◌+◌, ◌-◌, ◌==◌, Bool, List, length, take, drop, Option, Some, None, if◌then◌else◌}
-use Rattle.bit_rows.specs.BitRow.{bit_of, field}
+use Rattle.ts_bit_rows.specs.BitRow.{bit_of, field}
 use Rattle.ts_section.specs.declared.long_head.LongHead.{LongHead}
 use Rattle.ts_section.specs.declared.section.TheConstants.{LONG_BODY_PLACE, SHORT_BODY_PLACE}
 

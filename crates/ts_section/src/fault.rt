@@ -19,7 +19,7 @@ pub enum SectionFault {
     /// Only `found` bytes are there and `wanted` are needed: 3 for the first fields, then the whole section.
     Short { wanted: usize, found: usize },
     /// A rule without numbers is broken.
-    Lawless { rule: SectionRule },
+    Invalid { rule: SectionRule },
     /// The section_length is above 4093.
     TooLong { length: u16 },
     /// The last four bytes are `found`; the CRC of the bytes before them is `wanted`.

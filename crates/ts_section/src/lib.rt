@@ -14,5 +14,5 @@ pub use crc::crc_of;
 pub use fault::{RunFault, SectionFault, SectionRule};
 pub use long_head::LongHead;
 pub use section::{LONG_BODY_PLACE, MOST_SECTION_LENGTH, SHORT_BODY_PLACE, Section};
-pub use section_laws::{made_sections_are_lawful, runs_share_their_head};
+pub use section_laws::{made_sections_are_valid, runs_share_their_head};
 pub use table_run::TableRun;

@@ -3,7 +3,7 @@
 ghost use Rattle.std.specs.Prelude.{◌≡◌, ◌≢◌, ◌<◌, ◌≤◌, ◌+◌, true, false, length, take, drop, IfOk, IfSome, IfNone, IsOkUnless};
 ghost use Rattle.ts_section.specs.SectionFields.{table_id_of, section_length_of, head_of, body_of, body_place, front_of};
 ghost use Rattle.ts_section.specs.SectionFields as fields;
-ghost use Rattle.ts_section.specs.LawfulSection.{IsSection};
+ghost use Rattle.ts_section.specs.ValidSection.{IsSection};
 ghost use Rattle.ts_section.specs.FirstBroken.{first_broken, first_broken_long};
 ghost use Rattle.ts_section.specs.WrittenSection.{first_three, next_five, long_section, short_section, IsLongSectionOf, IsShortSectionOf};
 
@@ -34,7 +34,7 @@ pub struct Section {
 // Clauses see a section as the list of its bytes.
 impl Model for Section {
     ghost use Rattle.std.specs.Prelude.{List, ℕ};
-    ghost use Rattle.ts_section.specs.LawfulSection.{IsSection};
+    ghost use Rattle.ts_section.specs.ValidSection.{IsSection};
 
     ghost Value = { List ℕ };
 
@@ -49,7 +49,7 @@ impl Section {
         ensures refused { IfSome (first_broken from.now) (λ fault. result ≡ Err fault) }
         ensures accepted { IfNone (first_broken from.now) (IsOkUnless result SectionFault.NoMemory) }
         ensures same { IfOk result (λ s. s ≡ from.now) }
-        ensures lawful { IfOk result (λ s. IsSection s) }
+        ensures valid { IfOk result (λ s. IsSection s) }
         ensures every_section { IsSection from.now → IsOkUnless result SectionFault.NoMemory }
     {
         if let Some(fault) = first_fault(from) {
@@ -67,15 +67,15 @@ impl Section {
         ensures refused { IfSome (first_broken (front_of from.now)) (λ fault. result ≡ Err fault) }
         ensures accepted { IfNone (first_broken (front_of from.now)) (IsOkUnless result SectionFault.NoMemory) }
         ensures same { IfOk result (λ s. s ≡ front_of from.now) }
-        ensures lawful { IfOk result (λ s. IsSection s) }
-        ensures nothing_trails { first_broken (front_of from.now) ≢ Some (SectionFault.Lawless SectionRule.Trailing) }
+        ensures valid { IfOk result (λ s. IsSection s) }
+        ensures nothing_trails { first_broken (front_of from.now) ≢ Some (SectionFault.Invalid SectionRule.Trailing) }
     {
         Section::parse(alloc, front(from))
     }
 
     /// The section of the long form with this head and body, with reserved bits as ones and its CRC.
     pub fn long(alloc: Global, head: LongHead, body: &[u8]) -> Result<Section, AllocError>
-        requires lawful_id { head.table_id < 255 }
+        requires valid_id { head.table_id < 255 }
         requires version { head.version < 32 }
         requires numbers { head.number ≤ head.last }
         requires room { length body.now ≤ 4084 }
@@ -99,7 +99,7 @@ impl Section {
         private: bool,
         body: &[u8],
     ) -> Result<Section, AllocError>
-        requires lawful_id { table_id < 255 }
+        requires valid_id { table_id < 255 }
         requires room { length body.now ≤ MOST_SECTION_LENGTH }
         ensures made { IfOk result (λ s. s ≡ short_section table_id «private» body.now) }
         ensures written { IfOk result (λ s. IsShortSectionOf table_id «private» body.now s) }
@@ -113,7 +113,7 @@ impl Section {
     /// All bytes of the section.
     pub fn bytes(&self) -> &[u8]
         ensures same { result.now ≡ self.now }
-        ensures lawful { IsSection self.now }
+        ensures valid { IsSection self.now }
     {
         &self.bytes
     }
@@ -121,7 +121,7 @@ impl Section {
     /// The table_id, 0 to 254.
     pub fn table_id(&self) -> u8
         ensures id { result ≡ table_id_of self.now }
-        ensures lawful { IsSection self.now }
+        ensures valid { IsSection self.now }
     {
         let b = self.bytes.as_slice();
         b[0]
@@ -130,7 +130,7 @@ impl Section {
     /// Whether the section has the long form.
     pub fn is_long(&self) -> bool
         ensures long { result ≡ fields.is_long self.now }
-        ensures lawful { IsSection self.now }
+        ensures valid { IsSection self.now }
     {
         is_long(&self.bytes)
     }
@@ -138,7 +138,7 @@ impl Section {
     /// The bit after section_syntax_indicator.
     pub fn is_private(&self) -> bool
         ensures own { result ≡ fields.private_of self.now }
-        ensures lawful { IsSection self.now }
+        ensures valid { IsSection self.now }
     {
         is_private(&self.bytes)
     }
@@ -148,7 +148,7 @@ impl Section {
         ensures head { result ≡ head_of self.now }
         ensures version { IfSome result (λ head. head.version < 32) }
         ensures numbers { IfSome result (λ head. head.number ≤ head.last) }
-        ensures lawful { IsSection self.now }
+        ensures valid { IsSection self.now }
     {
         let b = self.bytes.as_slice();
         if is_long(b) { Some(long_head(b)) } else { None }
@@ -160,7 +160,7 @@ impl Section {
         ensures place { result.now ≡ take (length result.now) (drop (body_place self.now) self.now) }
         ensures long_size { fields.is_long self.now ≡ true → length result.now + 9 ≡ section_length_of self.now }
         ensures short_size { fields.is_long self.now ≡ false → length result.now ≡ section_length_of self.now }
-        ensures lawful { IsSection self.now }
+        ensures valid { IsSection self.now }
     {
         let b = self.bytes.as_slice();
         if is_long(b) {
@@ -246,7 +246,7 @@ fn first_fault(bytes: &[u8]) -> Option<SectionFault>
         });
     }
     if bytes[0] == 0xFF {
-        return Some(SectionFault::Lawless {
+        return Some(SectionFault::Invalid {
             rule: SectionRule::Stuffing,
         });
     }
@@ -259,7 +259,7 @@ fn first_fault(bytes: &[u8]) -> Option<SectionFault>
         return Some(SectionFault::Short { wanted, found });
     }
     if wanted < found {
-        return Some(SectionFault::Lawless {
+        return Some(SectionFault::Invalid {
             rule: SectionRule::Trailing,
         });
     }
@@ -276,12 +276,12 @@ fn first_fault_long(bytes: &[u8]) -> Option<SectionFault>
     ensures { result ≡ first_broken_long bytes.now }
 {
     if bytes.len() < LONG_BODY_PLACE + CRC_SIZE {
-        return Some(SectionFault::Lawless {
+        return Some(SectionFault::Invalid {
             rule: SectionRule::ShortLong,
         });
     }
     if bytes[7] < bytes[6] {
-        return Some(SectionFault::Lawless {
+        return Some(SectionFault::Invalid {
             rule: SectionRule::Numbers,
         });
     }

@@ -8,7 +8,7 @@ ghost use Rattle.ts_section.specs.WrittenSection.{long_section, short_section, I
 
 /// A section built from a head and a body within their ranges is a valid section with that head and that
 /// body. A law; it runs nothing.
-pub fn made_sections_are_lawful()
+pub fn made_sections_are_valid()
     ensures long { (head : LongHead) (body : List ℕ) → head.table_id < 255 → head.extension < 65536 →
         head.version < 32 → head.number ≤ head.last → head.last < 256 →
         All (λ x. x < 256) body → length body ≤ 4084 → IsLongSectionOf head body (long_section head body) }

@@ -2,7 +2,7 @@
 
 ghost use Rattle.std.specs.Prelude.{◌≡◌, ◌↔◌, true, false, All, IfOk, IfErr, IfNone, IfSome, OnSome, IsTrue};
 ghost use Rattle.ts_section.specs.SectionFields.{head_fields};
-ghost use Rattle.ts_section.specs.LawfulSection.{IsSection};
+ghost use Rattle.ts_section.specs.ValidSection.{IsSection};
 ghost use Rattle.ts_section.specs.SectionRun.{stands_alone, SharesHead, IsTableRun, IsRunFault};
 
 use crate::fault::RunFault;
@@ -21,7 +21,7 @@ pub struct TableRun {
 // Clauses see a run as the list of its sections.
 impl Model for TableRun {
     ghost use Rattle.std.specs.Prelude.{List, ℕ, All};
-    ghost use Rattle.ts_section.specs.LawfulSection.{IsSection};
+    ghost use Rattle.ts_section.specs.ValidSection.{IsSection};
     ghost use Rattle.ts_section.specs.SectionRun.{IsTableRun};
 
     ghost Value = { List (List ℕ) };
@@ -36,7 +36,7 @@ impl TableRun {
     pub fn of(sections: Vec<Section>) -> Result<TableRun, RunFault>
         ensures same { IfOk result (λ run. run ≡ sections.items) }
         ensures whole { IfOk result (λ run. IsTableRun run) }
-        ensures lawful { IfOk result (λ run. All (λ s. IsSection s) run) }
+        ensures valid { IfOk result (λ run. All (λ s. IsSection s) run) }
         ensures refused { IfErr result (λ fault. IsRunFault sections.items fault.place) }
     {
         match fault_place(&sections) {
@@ -49,7 +49,7 @@ impl TableRun {
     pub fn sections(&self) -> &[Section]
         ensures same { result.now ≡ self.now }
         ensures whole { IsTableRun self.now }
-        ensures lawful { All (λ s. IsSection s) self.now }
+        ensures valid { All (λ s. IsSection s) self.now }
     {
         &self.sections
     }
@@ -70,7 +70,7 @@ impl TableRun {
 /// Where the sections stop being a run; none where they are a run.
 fn fault_place(sections: &[Section]) -> Option<usize>
     ensures whole { IfNone result (IsTableRun sections.now) }
-    ensures lawful { IfNone result (All (λ s. IsSection s) sections.now) }
+    ensures valid { IfNone result (All (λ s. IsSection s) sections.now) }
     ensures fault { IfSome result (IsRunFault sections.now) }
 {
     let Some(first) = sections.first() else {
@@ -97,7 +97,7 @@ fn shared_head(section: &Section) -> Option<LongHead>
     ensures alone { IfNone result (stands_alone section.now ≡ true) }
     ensures together { OnSome result (stands_alone section.now ≡ false) }
     ensures head { IfSome result (λ head. head ≡ head_fields section.now) }
-    ensures lawful { IsSection section.now }
+    ensures valid { IsSection section.now }
 {
     let head = section.head()?;
     if 0x4E <= head.table_id && head.table_id <= 0x6F {
@@ -110,7 +110,7 @@ fn shared_head(section: &Section) -> Option<LongHead>
 /// Whether the section stands at `place` of the run that a section with the head `first` begins.
 fn is_member(first: &LongHead, place: usize, section: &Section) -> bool
     ensures member { IsTrue result ↔ SharesHead first.now place section.now }
-    ensures lawful { IsSection section.now }
+    ensures valid { IsSection section.now }
 {
     let Some(head) = shared_head(section) else {
         return false;

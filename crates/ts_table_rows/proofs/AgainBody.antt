@@ -17,8 +17,8 @@ use Rattle.ts_table_rows.specs.TablePages.{ItemPage, TablePage, closed_rows, ite
 use Rattle.ts_table_rows.specs.TableValues.{ItemHolding, BodyHolding}
 use Rattle.ts_table_rows.specs.TableFitting.{item_fits, items_fit, own_fit, values_fit, zeros_from}
 use Rattle.ts_table_rows.specs.TableSections.{length_with}
-use Rattle.ts_table_rows.specs.BodySpelling.{item_row, spell_counted, spell_item, spell_own, spell_behind, spell_parts, body_row, held_count, common_values, head_values}
-use Rattle.ts_table_rows.specs.BodyReading.{Fault, Seen, read_counted, read_loop, read_last_loop, read_items, read_counted_items, read_behind, is_same, first_number, read_heading, read_body}
+use Rattle.ts_table_rows.specs.BodySpelling.{item_row, spell_counted, spell_item, spell_own, spell_after, spell_parts, body_row, held_count, common_values, head_values}
+use Rattle.ts_table_rows.specs.BodyReading.{Fault, Seen, read_counted, read_loop, read_last_loop, read_items, read_counted_items, read_after, is_same, first_number, read_heading, read_body}
 use Rattle.ts_table_rows.proofs.SizeLemmas.{SoundPage, parts_of_sound, item_whole, parts_whole, counted_length}
 use Rattle.ts_table_rows.proofs.BodyLemmas.{length-bytes_of}
 use Rattle.ts_table_rows.proofs.AgainBits.{ReadAgain, bytes-again, bytes-append, bits_of-append, fields-again}
@@ -31,11 +31,11 @@ so_true false is = cc
 -- ---- the descriptors of the table itself
 
 own-again : ReadAgain → (form : LoopForm) (items : Option ItemPage) (ds : List TaggedBody) (row : List ℕ) → ends_once form items ≡ true → own_fit form ds ≡ true → All (λ d. IsDescriptor d) ds → length (spell_own form (loop_bytes ds)) < 32768
-    → read_loop form (spell_own form (loop_bytes ds) ++ spell_behind items row) ≡ Ok (ds, spell_behind items row)
+    → read_loop form (spell_own form (loop_bytes ds) ++ spell_after items row) ≡ Ok (ds, spell_after items row)
 unfolding read_loop
-own-again laws Absent items ds row once fit all few = ap (λ l. Ok (l, spell_behind items row)) (sym (none-is ds fit))
+own-again laws Absent items ds row once fit all few = ap (λ l. Ok (l, spell_after items row)) (sym (none-is ds fit))
 own-again laws Counted items ds row once fit all few =
-    loop-again laws Short (length (spell_counted (loop_bytes ds) ++ spell_behind items row)) 0 ds (spell_behind items row) all few
+    loop-again laws Short (length (spell_counted (loop_bytes ds) ++ spell_after items row)) 0 ds (spell_after items row) all few
 own-again laws ToEnd None ds row once fit all few = ap read_last_loop (append-nil (bits_of (loop_bytes ds))) ∙ last-again laws ds all
 own-again laws ToEnd (Some i) ds row once fit all few = cc
 
@@ -80,9 +80,9 @@ by_counted : {Y : Type 0} (counted : Bool) (a b : List Bool) (one two : List Boo
 by_counted true a b one two y first second few = first few
 by_counted false a b one two y first second few = second few
 
-behind-again : ReadAgain → (one_zero : Bool) (items : Option ItemPage) (seen now : Bool) (xs : List ItemHolding) → items_sound items ≡ true → items_fit items xs ≡ true → All (λ x. All (λ d. IsDescriptor d) x.descriptors) xs → length (spell_behind items (flat_map (item_row items) xs)) < 32768
-    → zeros_from one_zero seen xs ≡ Some now → read_behind one_zero items seen (spell_behind items (flat_map (item_row items) xs)) ≡ Ok (xs, now)
-unfolding read_behind
+behind-again : ReadAgain → (one_zero : Bool) (items : Option ItemPage) (seen now : Bool) (xs : List ItemHolding) → items_sound items ≡ true → items_fit items xs ≡ true → All (λ x. All (λ d. IsDescriptor d) x.descriptors) xs → length (spell_after items (flat_map (item_row items) xs)) < 32768
+    → zeros_from one_zero seen xs ≡ Some now → read_after one_zero items seen (spell_after items (flat_map (item_row items) xs)) ≡ Ok (xs, now)
+unfolding read_after
 behind-again laws one_zero None seen now [] sound fit all few zeros = ap (λ s. Ok ([], s)) (zeros-end one_zero seen now zeros)
 behind-again laws one_zero None seen now (x ∷ xs) sound fit all few zeros = cc
 behind-again laws one_zero (Some i) seen now xs sound fit all few zeros =
@@ -115,28 +115,28 @@ pub record Serves (p : TablePage) (values : List Held) (c : BodyHolding) : Type 
   pub room : length_with p c ≤ p.most
 
 -- what has been seen after a section of a table with these values
-abbrev pub seen_behind : TablePage → List Held → Bool → Seen
-seen_behind p values zero = record { first = first_number (common_values p values); zero = zero }
+abbrev pub seen_after : TablePage → List Held → Bool → Seen
+seen_after p values zero = record { first = first_number (common_values p values); zero = zero }
 
 parts-again : ReadAgain → (p : TablePage) (seen : Seen) (now : Bool) (c : BodyHolding) → SoundPage p → values_fit p c.values ≡ true → Serves p c.values c → is_same seen.first (first_number (common_values p c.values)) ≡ true → zeros_from p.one_zero seen.zero c.items ≡ Some now
     → length (spell_parts p c.values (loop_bytes c.descriptors) (flat_map (item_row p.items) c.items)) < 32768
-    → read_body p seen (spell_parts p c.values (loop_bytes c.descriptors) (flat_map (item_row p.items) c.items)) ≡ Ok (c, seen_behind p c.values now)
+    → read_body p seen (spell_parts p c.values (loop_bytes c.descriptors) (flat_map (item_row p.items) c.items)) ≡ Ok (c, seen_after p c.values now)
 unfolding read_body spell_parts
 parts-again laws p seen now c sound fit serve same zeros few =
     let row : List ℕ = flat_map (item_row p.items) c.items in
     let own : List Bool = spell_own p.loop_form (loop_bytes c.descriptors) in
-    let behind : List Bool = spell_behind p.items row in
+    let behind : List Bool = spell_after p.items row in
     let common : List Bool = spell_rows p.common (common_values p c.values) in
     let head : List Bool = spell_rows p.head (head_values p c.values) in
     let one = length-append common (head ++ (own ++ behind)) in
     let two = length-append head (own ++ behind) in
     let three = length-append own behind in
     let few_own : length own < 32768 = omega arith in
-    let few_behind : length behind < 32768 = omega arith in
+    let few_after : length behind < 32768 = omega arith in
     rw (
       heading-again laws p seen.first c.values (own ++ behind) sound.common sound.head fit same,
       own-again laws p.loop_form p.items c.descriptors row sound.once serve.own serve.owned few_own,
-      behind-again laws p.one_zero p.items seen.zero now c.items sound.items serve.items serve.described few_behind zeros,
+      behind-again laws p.one_zero p.items seen.zero now c.items sound.items serve.items serve.described few_after zeros,
     ) refl
 
 -- a body is written as bytes
@@ -147,7 +147,7 @@ body-bytes laws p c sound fit =
 
 -- and is read again
 pub body-again : ReadAgain → (p : TablePage) (seen : Seen) (now : Bool) (c : BodyHolding) → IsTrue (page_sound p) → values_fit p c.values ≡ true → Serves p c.values c → is_same seen.first (first_number (common_values p c.values)) ≡ true → zeros_from p.one_zero seen.zero c.items ≡ Some now
-    → read_body p seen (bits_of (body_row p c)) ≡ Ok (c, seen_behind p c.values now)
+    → read_body p seen (bits_of (body_row p c)) ≡ Ok (c, seen_after p c.values now)
 body-again laws p seen now c sound fit serve same zeros =
     let spelled : List Bool = spell_parts p c.values (loop_bytes c.descriptors) (flat_map (item_row p.items) c.items) in
     let parts = parts_of_sound p sound in

@@ -25,12 +25,12 @@ use Rattle.ts_table_rows.proofs.NumberLemmas.{FitHead, head_parts, FitBody, body
 use Rattle.ts_table_rows.proofs.RunLemmas.{run_reads}
 use Rattle.ts_table_rows.proofs.BodyLemmas.{keeps_single}
 use Rattle.ts_table_rows.proofs.AgainBits.{ReadAgain}
-use Rattle.ts_table_rows.proofs.AgainBody.{Serves, seen_behind, body-again, body-bytes}
+use Rattle.ts_table_rows.proofs.AgainBody.{Serves, seen_after, body-again, body-bytes}
 use Rattle.ts_table_rows.proofs.AgainPieces.{join_bodies, Bodies, bodies-of}
 
 -- what the layer below ensures of sections that are made
-abbrev pub MadeLawful : Type 0
-MadeLawful = (head : LongHead) (body : List ℕ) → head.table_id < 255 → head.extension < 65536 → head.version < 32 → head.number ≤ head.last → head.last < 256 → All (λ x. x < 256) body → length body ≤ 4084 → IsLongSectionOf head body (long_section head body)
+abbrev pub MadeValid : Type 0
+MadeValid = (head : LongHead) (body : List ℕ) → head.table_id < 255 → head.extension < 65536 → head.version < 32 → head.number ≤ head.last → head.last < 256 → All (λ x. x < 256) body → length body ≤ 4084 → IsLongSectionOf head body (long_section head body)
 
 -- ---- one section
 
@@ -44,27 +44,27 @@ all-bytes (x ∷ row) small =
 made-length : (head : LongHead) (body s : List ℕ) → IsLongSectionOf head body s → section_length_of s ≡ 9 + length body
 made-length head body s made =
     let form : is_long s ≡ true = made.long in
-    let long = made.lawful.long (subst IsTrue (sym form) refl) in
+    let long = made.valid.long (subst IsTrue (sym form) refl) in
     let own : body_of s ≡ drop 8 (take (length s - 4) s) = rw form refl in
     let front : length s - 4 ≤ length s = omega arith in
-    omega (arith, ap length (sym made.same_body ∙ own), length-drop 8 (take (length s - 4) s), length-take-le (length s - 4) s front, made.lawful.whole, long.room)
+    omega (arith, ap length (sym made.same_body ∙ own), length-drop 8 (take (length s - 4) s), length-take-le (length s - 4) s front, made.valid.whole, long.room)
 
 section-again : ReadAgain → (p : TablePage) (seen : Seen) (now : Bool) (place : ℕ) (head : LongHead) (s : List ℕ) (c : BodyHolding) → IsTrue (page_sound p) → values_fit p c.values ≡ true → Serves p c.values c → is_same seen.first (first_number (common_values p c.values)) ≡ true
-    → zeros_from p.one_zero seen.zero c.items ≡ Some now → IsLongSectionOf head (body_row p c) s → read_section p seen place s ≡ Ok (c, seen_behind p c.values now)
+    → zeros_from p.one_zero seen.zero c.items ≡ Some now → IsLongSectionOf head (body_row p c) s → read_section p seen place s ≡ Ok (c, seen_after p c.values now)
 unfolding read_section
 section-again laws p seen now place head s c sound fit serve same zeros made =
     let body = body-again laws p seen now c sound fit serve same zeros in
     let few : nat_lt p.most (section_length_of s) ≡ false = le-ltb p.most (section_length_of s) (omega (arith, made-length head (body_row p c) s made, serve.room)) in
-    let read : read_body p seen (bits_of (body_of s)) ≡ Ok (c, seen_behind p c.values now) = ap (λ l. read_body p seen (bits_of l)) made.same_body ∙ body in
+    let read : read_body p seen (bits_of (body_of s)) ≡ Ok (c, seen_after p c.values now) = ap (λ l. read_body p seen (bits_of l)) made.same_body ∙ body in
     rw few (ap (in_section place (length (body_of s))) read)
 
 -- a section that is made for a body is valid
-pub first-made : ReadAgain → MadeLawful → (p : TablePage) (h : TableHead) (values : List Held) (last number : ℕ) (c : BodyHolding) → IsTrue (page_sound p) → FitHead p h → values_fit p values ≡ true → Serves p values c → number ≤ last → last < 256
+pub first-made : ReadAgain → MadeValid → (p : TablePage) (h : TableHead) (values : List Held) (last number : ℕ) (c : BodyHolding) → IsTrue (page_sound p) → FitHead p h → values_fit p values ≡ true → Serves p values c → number ≤ last → last < 256
     → IsLongSectionOf (head_with p h last number) (body_row p c) (long_section (head_with p h last number) (body_row p c))
-first-made laws lawful p h values last number c sound head fit serve within small =
+first-made laws valid p h values last number c sound head fit serve within small =
     let fits : values_fit p c.values ≡ true = ap (values_fit p) serve.same ∙ fit in
     let few : length (body_row p c) ≤ 4084 = omega (arith, serve.room, (parts_of_sound p sound).most) in
-    lawful (head_with p h last number) (body_row p c) head.lawful_id head.extension head.version within small (all-bytes (body_row p c) (body-bytes laws p c sound fits)) few
+    valid (head_with p h last number) (body_row p c) head.valid_id head.extension head.version within small (all-bytes (body_row p c) (body-bytes laws p c sound fits)) few
 
 -- ---- sections one after another
 
@@ -90,22 +90,22 @@ same-self (Some n) = eq-eqb n n refl
 serve-own : (p : TablePage) (values : List Held) (c : BodyHolding) → Serves p values c → Serves p c.values c
 serve-own p values c serve = record { same = refl; own = serve.own; items = serve.items; owned = serve.owned; described = serve.described; room = serve.room }
 
-sections-again : ReadAgain → MadeLawful → (p : TablePage) (h : TableHead) (values : List Held) (last number place : ℕ) (seen : Seen) (now : Bool) (cs : List BodyHolding) → IsTrue (page_sound p) → FitHead p h → values_fit p values ≡ true
+sections-again : ReadAgain → MadeValid → (p : TablePage) (h : TableHead) (values : List Held) (last number place : ℕ) (seen : Seen) (now : Bool) (cs : List BodyHolding) → IsTrue (page_sound p) → FitHead p h → values_fit p values ≡ true
     → is_same seen.first (first_number (common_values p values)) ≡ true → All (λ c. Serves p values c) cs → number + length cs ≤ last + 1 → last < 256 → zeros_from p.one_zero seen.zero (join_bodies cs).items ≡ Some now
     → read_sections p seen place (numbered p h last number (map (body_row p) cs)) ≡ Ok (join_bodies cs)
 unfolding read_sections numbered
-sections-again laws lawful p h values last number place seen now [] sound head fit same serve room small zeros = refl
-sections-again laws lawful p h values last number place seen now (c ∷ cs) sound head fit same serve room small zeros =
+sections-again laws valid p h values last number place seen now [] sound head fit same serve room small zeros = refl
+sections-again laws valid p h values last number place seen now (c ∷ cs) sound head fit same serve room small zeros =
     let here : Serves p values c = All-head (λ c. Serves p values c) c cs serve in
     let own = serve-own p values c here in
     let fits : values_fit p c.values ≡ true = ap (values_fit p) here.same ∙ fit in
     let first : first_number (common_values p values) ≡ first_number (common_values p c.values) = ap (λ v. first_number (common_values p v)) (sym here.same) in
     let alike : is_same seen.first (first_number (common_values p c.values)) ≡ true = ap (is_same seen.first) (sym first) ∙ same in
     let split = zeros-split p.one_zero seen.zero now c.items (join_bodies cs).items zeros in
-    let made = first-made laws lawful p h values last number c sound head fit here (omega arith) small in
+    let made = first-made laws valid p h values last number c sound head fit here (omega arith) small in
     let read = section-again laws p seen split.0 place (head_with p h last number) (long_section (head_with p h last number) (body_row p c)) c sound fits own alike split.1 made in
     let next : is_same (first_number (common_values p c.values)) (first_number (common_values p values)) ≡ true = ap (is_same (first_number (common_values p c.values))) first ∙ same-self (first_number (common_values p c.values)) in
-    let more = sections-again laws lawful p h values last (number + 1) (place + 1) (seen_behind p c.values split.0) now cs sound head fit next (All-tail (λ c. Serves p values c) c cs serve) (omega arith) small split.2 in
+    let more = sections-again laws valid p h values last (number + 1) (place + 1) (seen_after p c.values split.0) now cs sound head fit next (All-tail (λ c. Serves p values c) c cs serve) (omega arith) small split.2 in
     rw (read, more) refl
 
 -- ---- the head of the first section
@@ -165,8 +165,8 @@ counted p h rows ss = cond_both (nat_lt 256 (length rows)) _ _ (λ r. r ≡ Ok s
     (λ many is. cc)
     (λ few is. (ltb-false 256 (length rows) few, cc))
 
-run-again : ReadAgain → MadeLawful → (p : TablePage) (h : TableHolding) (ss rows : List (List ℕ)) → IsTrue (page_sound p) → FitHead p h.head → FitBody p h.body → Bodies p h.body rows → sections_with p h.head rows ≡ Ok ss → read_run p ss ≡ Ok h
-run-again laws lawful p h ss rows sound head body bodies made =
+run-again : ReadAgain → MadeValid → (p : TablePage) (h : TableHolding) (ss rows : List (List ℕ)) → IsTrue (page_sound p) → FitHead p h.head → FitBody p h.body → Bodies p h.body rows → sections_with p h.head rows ≡ Ok ss → read_run p ss ≡ Ok h
+run-again laws valid p h ss rows sound head body bodies made =
     let cs : List BodyHolding = bodies.first ∷ bodies.others in
     let count : ℕ = length rows in
     let last : ℕ = (numbers_of h.head.numbers count).1 in
@@ -181,17 +181,17 @@ run-again laws lawful p h ss rows sound head body bodies made =
     let are : ss ≡ s ∷ rest = sym parts.1 ∙ ap (numbered p h.head last number) bodies.are ∙ first_numbered p h.head last number bodies.first bodies.others in
     let zeros = some_is (zeros_from p.one_zero false h.body.items) body.zeros in
     let zero : zeros_from p.one_zero false (join_bodies cs).items ≡ Some zeros.0 = ap (λ b. zeros_from p.one_zero false b.items) bodies.whole ∙ zeros.1 in
-    let reads = sections-again laws lawful p h.head h.body.values last number 0 unseen zeros.0 cs sound head body.values refl bodies.serve (omega (arith, some, room)) small zero in
+    let reads = sections-again laws valid p h.head h.body.values last number 0 unseen zeros.0 cs sound head body.values refl bodies.serve (omega (arith, some, room)) small zero in
     let here = ap (read_sections p unseen 0) (sym (first_numbered p h.head last number bodies.first bodies.others)) ∙ reads in
     let serve : Serves p h.body.values bodies.first = All-head (λ c. Serves p h.body.values c) bodies.first bodies.others bodies.serve in
-    let lone = first-made laws lawful p h.head h.body.values last number bodies.first sound head body.values serve (omega (arith, some, room)) small in
+    let lone = first-made laws valid p h.head h.body.values last number bodies.first sound head body.values serve (omega (arith, some, room)) small in
     run_reads p ss s rest h.head (join_bodies cs) are (head-again p h.head count (body_row p bodies.first) s head lone)
     (few-behind p.single (length rest) (λ single. none_numbered p h.head last (number + 1) bodies.others (bodies.one single))) here
     ∙ ap (λ b. Ok (record { head = h.head; body = b })) bodies.whole
 
-pub written-again : ReadAgain → MadeLawful → (p : TablePage) (h : TableHolding) (ss : List (List ℕ)) → IsTrue (page_sound p) → table_fits p h ≡ true → DescriptorsFit h.body → sections_of p h ≡ Ok ss → read_run p ss ≡ Ok h
+pub written-again : ReadAgain → MadeValid → (p : TablePage) (h : TableHolding) (ss : List (List ℕ)) → IsTrue (page_sound p) → table_fits p h ≡ true → DescriptorsFit h.body → sections_of p h ≡ Ok ss → read_run p ss ≡ Ok h
 unfolding sections_of
-written-again laws lawful p h ss sound fits some is =
+written-again laws valid p h ss sound fits some is =
     let fit = and_parts (head_fits p h.head) (body_fits p h.body) fits in
     then_written (body_rows p h.body) (sections_with p h.head) ss is (λ rows were made.
-    run-again laws lawful p h ss rows sound (head_parts p h.head fit.0) (body_parts p h.body fit.1) (bodies-of laws.sizes p h.body rows fit.1 some were) made)
+    run-again laws valid p h ss rows sound (head_parts p h.head fit.0) (body_parts p h.body fit.1) (bodies-of laws.sizes p h.body rows fit.1 some were) made)

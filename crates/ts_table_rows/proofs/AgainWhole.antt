@@ -22,7 +22,7 @@ use Rattle.ts_table_rows.proofs.BodyLemmas.{keeps_single}
 use Rattle.ts_table_rows.proofs.AgainBits.{ReadAgain}
 use Rattle.ts_table_rows.proofs.AgainBody.{Serves}
 use Rattle.ts_table_rows.proofs.AgainPieces.{Bodies, bodies-of}
-use Rattle.ts_table_rows.proofs.AgainRun.{MadeLawful, first-made, last-small, counted, first_numbered, then_written}
+use Rattle.ts_table_rows.proofs.AgainRun.{MadeValid, first-made, last-small, counted, first_numbered, then_written}
 
 -- ---- table_ids
 
@@ -53,16 +53,16 @@ alone-is s id keeps long same is = rw (long, same) is
 -- ---- members
 
 -- a section of the run at its place
-numbered-at : ReadAgain → MadeLawful → (p : TablePage) (h : TableHead) (values : List Held) (last number : ℕ) (cs : List BodyHolding) → IsTrue (page_sound p) → FitHead p h → values_fit p values ≡ true → All (λ c. Serves p values c) cs → number + length cs ≤ last + 1 → last < 256
+numbered-at : ReadAgain → MadeValid → (p : TablePage) (h : TableHead) (values : List Held) (last number : ℕ) (cs : List BodyHolding) → IsTrue (page_sound p) → FitHead p h → values_fit p values ≡ true → All (λ c. Serves p values c) cs → number + length cs ≤ last + 1 → last < 256
     → (k : ℕ) → k < length cs → (c : BodyHolding) × IsLongSectionOf (head_with p h last (number + k)) (body_row p c) (get_or (numbered p h last number (map (body_row p) cs)) k [])
 unfolding numbered
-numbered-at laws lawful p h values last number [] sound head fit serve room small k inside = absurd (omega arith)
-numbered-at laws lawful p h values last number (c ∷ cs) sound head fit serve room small zero inside =
-    let made = first-made laws lawful p h values last number c sound head fit (All-head (λ c. Serves p values c) c cs serve) (omega arith) small in
+numbered-at laws valid p h values last number [] sound head fit serve room small k inside = absurd (omega arith)
+numbered-at laws valid p h values last number (c ∷ cs) sound head fit serve room small zero inside =
+    let made = first-made laws valid p h values last number c sound head fit (All-head (λ c. Serves p values c) c cs serve) (omega arith) small in
     let same : number ≡ number + 0 = omega arith in
     (c, subst (λ n. IsLongSectionOf (head_with p h last n) (body_row p c) (long_section (head_with p h last number) (body_row p c))) same made)
-numbered-at laws lawful p h values last number (c ∷ cs) sound head fit serve room small (suc k) inside =
-    let more = numbered-at laws lawful p h values last (number + 1) cs sound head fit (All-tail (λ c. Serves p values c) c cs serve) (omega arith) small k (omega arith) in
+numbered-at laws valid p h values last number (c ∷ cs) sound head fit serve room small (suc k) inside =
+    let more = numbered-at laws valid p h values last (number + 1) cs sound head fit (All-tail (λ c. Serves p values c) c cs serve) (omega arith) small k (omega arith) in
     let same : (number + 1) + k ≡ number + suc k = omega arith in
     (more.0, subst (λ n. IsLongSectionOf (head_with p h last n) (body_row p more.0) (get_or (numbered p h last (number + 1) (map (body_row p) cs)) k [])) same more.1)
 
@@ -95,20 +95,20 @@ unfolding numbered
 no-others p h last number cs none = ap (λ l. numbered p h last number (map (body_row p) l)) none
 
 -- sections that are numbered from 0 to the last
-members-are : ReadAgain → MadeLawful → (p : TablePage) (h : TableHead) (values : List Held) (last : ℕ) (c : BodyHolding) (cs : List BodyHolding) → IsTrue (page_sound p) → list_all (id_forms_runs false) p.ids ≡ true → FitHead p h → values_fit p values ≡ true → All (λ c. Serves p values c) (c ∷ cs)
+members-are : ReadAgain → MadeValid → (p : TablePage) (h : TableHead) (values : List Held) (last : ℕ) (c : BodyHolding) (cs : List BodyHolding) → IsTrue (page_sound p) → list_all (id_forms_runs false) p.ids ≡ true → FitHead p h → values_fit p values ≡ true → All (λ c. Serves p values c) (c ∷ cs)
     → last ≡ length cs → last < 256 → AllMembers (long_section (head_with p h last 0) (body_row p c)) (numbered p h last 0 (map (body_row p) (c ∷ cs)))
-members-are laws lawful p h values last c cs sound runs head fit serve count small place inside =
-    let first = first-made laws lawful p h values last 0 c sound head fit (All-head (λ c. Serves p values c) c cs serve) (omega arith) small in
+members-are laws valid p h values last c cs sound runs head fit serve count small place inside =
+    let first = first-made laws valid p h values last 0 c sound head fit (All-head (λ c. Serves p values c) c cs serve) (omega arith) small in
     let many : length (numbered p h last 0 (map (body_row p) (c ∷ cs))) ≡ length (c ∷ cs) = length-numbered p h last 0 (map (body_row p) (c ∷ cs)) ∙ length-map (c ∷ cs) (body_row p) in
-    let at = numbered-at laws lawful p h values last 0 (c ∷ cs) sound head fit serve (omega arith) small place (omega (arith, many)) in
+    let at = numbered-at laws valid p h values last 0 (c ∷ cs) sound head fit serve (omega arith) small place (omega (arith, many)) in
     let s : List ℕ = get_or (numbered p h last 0 (map (body_row p) (c ∷ cs))) place [] in
     let none : 0 + place ≡ place = omega arith in
     let here : IsLongSectionOf (head_with p h last place) (body_row p at.0) s = subst (λ n. IsLongSectionOf (head_with p h last n) (body_row p at.0) s) none at.1 in
     let together : stands_alone s ≡ false = alone-is s h.table_id false here.long (ap (λ f. f.table_id) here.same_head) (ids-run false p.ids h.table_id runs head.id) in
     is-member p h last place (body_row p c) (body_row p at.0) (long_section (head_with p h last 0) (body_row p c)) s together (omega (arith, many)) first here
 
-run-whole : ReadAgain → MadeLawful → (p : TablePage) (h : TableHolding) (ss rows : List (List ℕ)) → IsTrue (page_sound p) → forms_runs p ≡ true → FitHead p h.head → FitBody p h.body → Bodies p h.body rows → sections_with p h.head rows ≡ Ok ss → IsTableRun ss
-run-whole laws lawful p h ss rows sound runs head body bodies made =
+run-whole : ReadAgain → MadeValid → (p : TablePage) (h : TableHolding) (ss rows : List (List ℕ)) → IsTrue (page_sound p) → forms_runs p ≡ true → FitHead p h.head → FitBody p h.body → Bodies p h.body rows → sections_with p h.head rows ≡ Ok ss → IsTableRun ss
+run-whole laws valid p h ss rows sound runs head body bodies made =
     let cs : List BodyHolding = bodies.first ∷ bodies.others in
     let count : ℕ = length rows in
     let last : ℕ = (numbers_of h.head.numbers count).1 in
@@ -122,7 +122,7 @@ run-whole laws lawful p h ss rows sound runs head body bodies made =
     let s : List ℕ = long_section (head_with p h.head last number) (body_row p bodies.first) in
     let split : numbered p h.head last number (map (body_row p) cs) ≡ s ∷ rest = first_numbered p h.head last number bodies.first bodies.others in
     let are : ss ≡ s ∷ rest = sym parts.1 ∙ ap (numbered p h.head last number) bodies.are ∙ split in
-    let lone = first-made laws lawful p h.head h.body.values last number bodies.first sound head body.values (All-head (λ c. Serves p h.body.values c) bodies.first bodies.others bodies.serve) (omega (arith, some, room)) small in
+    let lone = first-made laws valid p h.head h.body.values last number bodies.first sound head body.values (All-head (λ c. Serves p h.body.values c) bodies.first bodies.others bodies.serve) (omega (arith, some, room)) small in
     subst IsTableRun (sym are) (elim (cases_Bool p.keeps_numbers) [
       | inl keeps ↦ inl (
         alone-is s h.head.table_id p.keeps_numbers lone.long (ap (λ f. f.table_id) lone.same_head) (ids-run p.keeps_numbers p.ids h.head.table_id runs head.id) ∙ keeps,
@@ -132,7 +132,7 @@ run-whole laws lawful p h ss rows sound runs head body bodies made =
           let zero = from-zero p.keeps_numbers h.head.numbers count several head.numbers in
           let end : last ≡ length bodies.others = omega (arith, zero.1, some) in
           let free : list_all (id_forms_runs false) p.ids ≡ true = ap (λ b. list_all (id_forms_runs b) p.ids) (sym several) ∙ runs in
-          let members = members-are laws lawful p h.head h.body.values last bodies.first bodies.others sound free head body.values bodies.serve end small in
+          let members = members-are laws valid p h.head h.body.values last bodies.first bodies.others sound free head body.values bodies.serve end small in
           let begun : AllMembers s (numbered p h.head last number (map (body_row p) cs)) =
           subst (λ n. AllMembers (long_section (head_with p h.head last n) (body_row p bodies.first)) (numbered p h.head last n (map (body_row p) cs))) (sym zero.0) members in
           let many : length rest ≡ length bodies.others = length-numbered p h.head last (number + 1) (map (body_row p) bodies.others) ∙ length-map bodies.others (body_row p) in
@@ -141,9 +141,9 @@ run-whole laws lawful p h ss rows sound runs head body bodies made =
           )
     ])
 
-pub written-whole : ReadAgain → MadeLawful → (p : TablePage) (h : TableHolding) (ss : List (List ℕ)) → IsTrue (page_sound p) → forms_runs p ≡ true → table_fits p h ≡ true → DescriptorsFit h.body → sections_of p h ≡ Ok ss → IsTableRun ss
+pub written-whole : ReadAgain → MadeValid → (p : TablePage) (h : TableHolding) (ss : List (List ℕ)) → IsTrue (page_sound p) → forms_runs p ≡ true → table_fits p h ≡ true → DescriptorsFit h.body → sections_of p h ≡ Ok ss → IsTableRun ss
 unfolding sections_of
-written-whole laws lawful p h ss sound runs fits some is =
+written-whole laws valid p h ss sound runs fits some is =
     let fit = and_parts (head_fits p h.head) (body_fits p h.body) fits in
     then_written (body_rows p h.body) (sections_with p h.head) ss is (λ rows were made.
-    run-whole laws lawful p h ss rows sound runs (head_parts p h.head fit.0) (body_parts p h.body fit.1) (bodies-of laws.sizes p h.body rows fit.1 some were) made)
+    run-whole laws valid p h ss rows sound runs (head_parts p h.head fit.0) (body_parts p h.body fit.1) (bodies-of laws.sizes p h.body rows fit.1 some were) made)

@@ -5,7 +5,7 @@ use Rattle.std.specs.List.{list_all}
 use Rattle.std.proofs.Math.Seq.{take-append_seam, drop-append_seam}
 use Rattle.std.proofs.lemmas.Bool.{cond_both, and_parts, and_from, lt-ltb, le-leb}
 use Rattle.std.proofs.lemmas.List.Elements.{All-head}
-use Rattle.bit_rows.proofs.Fields.{field-below}
+use Rattle.ts_bit_rows.proofs.Fields.{field-below}
 use Rattle.ts_bits.specs.TaggedBody.{TaggedBody}
 use Rattle.ts_fields.specs.Bits.{bits_of}
 use Rattle.ts_fields.specs.Layout.{Row, Held}
@@ -15,7 +15,7 @@ use Rattle.ts_fields.specs.Fitting.{fits, field_fits}
 use Rattle.ts_fields.specs.Reading.{read_number, read_rows}
 use Rattle.ts_fields.specs.Spelling.{spell_rows, holds}
 use Rattle.ts_section.specs.SectionFields.{is_long, table_id_of, section_length_of, extension_of, version_of, number_of, last_number_of, body_of}
-use Rattle.ts_section.specs.LawfulSection.{IsSection}
+use Rattle.ts_section.specs.ValidSection.{IsSection}
 use Rattle.ts_table_rows.specs.declared.table.TableHead.{TableHead}
 use Rattle.ts_table_rows.specs.declared.layout.LoopForm.{LoopForm}
 use Rattle.ts_table_rows.specs.declared.layout.LoopForm.TheVariants.{Absent, Counted, ToEnd}
@@ -25,7 +25,7 @@ use Rattle.ts_table_rows.specs.TablePages.{ItemPage, TablePage, fixed_part, has_
 use Rattle.ts_table_rows.specs.TableValues.{ItemHolding, BodyHolding, TableHolding, no_body, joined}
 use Rattle.ts_table_rows.specs.TableFitting.{none_there, item_fits, own_fit, items_fit, values_fit, zeros_from, numbers_fit, head_fits, body_fits, table_fits}
 use Rattle.ts_table_rows.specs.BodySpelling.{held_count, common_values, head_values}
-use Rattle.ts_table_rows.specs.BodyReading.{Fault, Seen, broken, or_broken, read_fields, read_counted, read_loop, read_described, read_item, read_next, read_items, count_zero, is_zero, first_number, nothing_left, read_counted_items, read_behind, agreed, is_same, read_heading, read_body}
+use Rattle.ts_table_rows.specs.BodyReading.{Fault, Seen, broken, or_broken, read_fields, read_counted, read_loop, read_described, read_item, read_next, read_items, count_zero, is_zero, first_number, nothing_left, read_counted_items, read_after, agreed, is_same, read_heading, read_body}
 use Rattle.ts_table_rows.specs.RunReading as run
 use Rattle.ts_table_rows.specs.RunReading.{FirstBroken, read_section, read_sections, in_section, kept_head, is_of, table_head, too_many, read_by, read_run, unseen}
 use Rattle.ts_table_rows.proofs.ReadLemmas.{then_ok, same_ok, fields_are_rows}
@@ -106,13 +106,13 @@ counted_fit law one_zero i seen from y is =
     let fit = items_read_fit law (length (bits_of row.0)) one_zero i seen (length row.1) (bits_of row.0) items c in
     (ap (λ z. list_all (item_fits i) z.0) (sym e) ∙ fit.0, ap (λ z. zeros_from one_zero seen z.0) (sym e) ∙ fit.1 ∙ ap (λ z. Some z.1) e)))))
 
-pub behind_fit : RowsFit → (one_zero : Bool) (i : Option ItemPage) (seen : Bool) (from : List Bool) (y : List ItemHolding × Bool) → read_behind one_zero i seen from ≡ Ok y → (items_fit i y.0 ≡ true) × (zeros_from one_zero seen y.0 ≡ Some y.1)
-unfolding read_behind
-behind_fit law one_zero None seen from y is =
+pub after_fit : RowsFit → (one_zero : Bool) (i : Option ItemPage) (seen : Bool) (from : List Bool) (y : List ItemHolding × Bool) → read_after one_zero i seen from ≡ Ok y → (items_fit i y.0 ≡ true) × (zeros_from one_zero seen y.0 ≡ Some y.1)
+unfolding read_after
+after_fit law one_zero None seen from y is =
     then_ok (nothing_left (length from)) _ y is (λ none was joins.
     let e : ◌≡◌ {A = List ItemHolding × Bool} ([], seen) y = same_ok _ _ joins in
     (ap (λ z. items_fit None z.0) (sym e), ap (λ z. zeros_from one_zero seen z.0) (sym e) ∙ zeros_none one_zero seen ∙ ap (λ z. Some z.1) e))
-behind_fit law one_zero (Some i) seen from y is =
+after_fit law one_zero (Some i) seen from y is =
     cond_both i.counted (read_counted_items one_zero i seen from) (read_items (length from) one_zero i seen 0 from) (λ r. r ≡ Ok y → (items_fit (Some i) y.0 ≡ true) × (zeros_from one_zero seen y.0 ≡ Some y.1))
     (λ counted read. counted_fit law one_zero i seen from y read)
     (λ uncounted read. items_read_fit law (length from) one_zero i seen 0 from y read) is
@@ -182,9 +182,9 @@ unfolding read_body
 body_fit law p seen from y is =
     then_ok (read_heading p seen.first from) _ y is (λ heading a later.
     then_ok (read_loop p.loop_form heading.2) _ y later (λ own b last.
-    then_ok (read_behind p.one_zero p.items seen.zero own.1) _ y last (λ items c joins.
+    then_ok (read_after p.one_zero p.items seen.zero own.1) _ y last (λ items c joins.
     let e = same_ok _ _ joins in
-    let fit = behind_fit law p.one_zero p.items seen.zero own.1 items c in (
+    let fit = after_fit law p.one_zero p.items seen.zero own.1 items c in (
       ap (λ z. values_fit p z.0.values) (sym e) ∙ heading_fit law p seen.first from heading a,
       record {
         own = ap (λ z. own_fit p.loop_form z.0.descriptors) (sym e) ∙ own_read_fit p.loop_form heading.2 own b;
@@ -287,13 +287,13 @@ is_true true h = refl
 is_true false h = cc
 
 head_fit : (p : TablePage) (s : List ℕ) (head : TableHead) → IsSection s → table_head p s ≡ Some head → head_fits p head ≡ true
-head_fit p s head lawful =
+head_fit p s head valid =
     cond_both (is_of p s) _ _ (λ o. o ≡ Some head → head_fits p head ≡ true)
     (λ ours is.
     let parts = and_parts (is_long s) (has_id p.ids (table_id_of s)) ours in
-    let long = lawful.long (is_true (is_long s) parts.0) in
+    let long = valid.long (is_true (is_long s) parts.0) in
     let same : kept_head p s ≡ head = cc in
-    let id : table_id_of s < 255 = omega (arith, field-below s 0 8, lawful.no_stuffing) in
+    let id : table_id_of s < 255 = omega (arith, field-below s 0 8, valid.no_stuffing) in
     subst (λ h. head_fits p h ≡ true) same
     (and_from (has_id p.ids (table_id_of s)) _ parts.1
     (and_from (nat_lt (table_id_of s) 255) _ (lt-ltb (table_id_of s) 255 id)
@@ -312,8 +312,8 @@ some_is o b is = rw is refl
 -- the values of a run as a table fit
 pub run_fit : RowsFit → (p : TablePage) (ss : List (List ℕ)) (h : TableHolding) → All (λ s. IsSection s) ss → read_run p ss ≡ Ok h → table_fits p h ≡ true
 unfolding read_run
-run_fit law p [] h lawful is = cc
-run_fit law p (s ∷ ss) h lawful is = by_head (table_head p s) refl is
+run_fit law p [] h valid is = cc
+run_fit law p (s ∷ ss) h valid is = by_head (table_head p s) refl is
   where
     by_head : (o : Option TableHead) → table_head p s ≡ o → read_by p o s ss ≡ Ok h → table_fits p h ≡ true
     by_head None found reads = cc
@@ -329,5 +329,5 @@ run_fit law p (s ∷ ss) h lawful is = by_head (table_head p s) refl is
         (and_from (own_fit p.loop_form b.descriptors) _ fit.1.own
         (and_from (items_fit p.items b.items) _ fit.1.items (some_is (zeros_from p.one_zero false b.items) fit.0 fit.1.zeros))) in
         subst (λ t. table_fits p t ≡ true) e
-        (and_from (head_fits p head) (body_fits p b) (head_fit p s head (All-head (λ s. IsSection s) s ss lawful) found) body)))
+        (and_from (head_fits p head) (body_fits p b) (head_fit p s head (All-head (λ s. IsSection s) s ss valid) found) body)))
         reads

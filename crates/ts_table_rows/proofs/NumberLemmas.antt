@@ -44,7 +44,7 @@ number_room true (Some n) count fit some one = omega (arith, one refl, leb-true 
 -- the parts of a head that fits
 pub record FitHead (p : TablePage) (h : TableHead) : Type 0 where
   pub id : has_id p.ids h.table_id ≡ true
-  pub lawful_id : h.table_id < 255
+  pub valid_id : h.table_id < 255
   pub extension : h.extension < 65536
   pub version : h.version < 32
   pub numbers : numbers_fit p.keeps_numbers h.numbers ≡ true
@@ -55,7 +55,7 @@ head_parts p h fit =
     let b = and_parts (nat_lt h.table_id 255) _ a.1 in
     let c = and_parts (nat_lt h.extension 65536) _ b.1 in
     let d = and_parts (nat_lt h.version 32) _ c.1 in
-    record { id = a.0; lawful_id = ltb-true h.table_id 255 b.0; extension = ltb-true h.extension 65536 c.0; version = ltb-true h.version 32 d.0; numbers = d.1 }
+    record { id = a.0; valid_id = ltb-true h.table_id 255 b.0; extension = ltb-true h.extension 65536 c.0; version = ltb-true h.version 32 d.0; numbers = d.1 }
 
 -- the parts of a body that fits
 pub record FitBody (p : TablePage) (b : BodyHolding) : Type 0 where

@@ -13,7 +13,7 @@ use Rattle.ts_table_rows.specs.declared.layout.LoopForm.{LoopForm}
 use Rattle.ts_table_rows.specs.declared.layout.LoopForm.TheVariants.{Absent, Counted, ToEnd}
 use Rattle.ts_table_rows.specs.TablePages.{ItemPage, TablePage, fixed_part, closed_rows, item_sound, items_sound, ends_once, heading_bits, own_bits, items_bits, page_sound}
 use Rattle.ts_table_rows.specs.TableValues.{ItemHolding}
-use Rattle.ts_table_rows.specs.BodySpelling.{read_row, bytes_of, spell_counted, spell_described, spell_item, spell_own, spell_behind, common_values, head_values, spell_parts}
+use Rattle.ts_table_rows.specs.BodySpelling.{read_row, bytes_of, spell_counted, spell_described, spell_item, spell_own, spell_after, common_values, head_values, spell_parts}
 use Rattle.ts_table_rows.specs.TableFitting.{none_there, item_fits, values_fit}
 
 pub is_true : (b : Bool) → IsTrue b → b ≡ true
@@ -76,9 +76,9 @@ counted_items : SpelledBits → (counted : Bool) (row : List ℕ) → length (if
 counted_items laws true row = omega (arith, length-append (bits 4 15) (spell_counted row), laws.wide 4 15, counted_length laws row)
 counted_items laws false row = omega (arith, laws.long row)
 
-behind_length : SpelledBits → (items : Option ItemPage) (row : List ℕ) → length (spell_behind items row) ≡ items_bits items + 8 * items_taken items row
-behind_length laws None row = refl
-behind_length laws (Some i) row = counted_items laws i.counted row
+after_length : SpelledBits → (items : Option ItemPage) (row : List ℕ) → length (spell_after items row) ≡ items_bits items + 8 * items_taken items row
+after_length laws None row = refl
+after_length laws (Some i) row = counted_items laws i.counted row
 
 -- the parts of a sound page
 pub record SoundPage (p : TablePage) : Type 0 where
@@ -105,10 +105,10 @@ pub parts_length : SpelledBits → (p : TablePage) (values : List Held) (own ite
     → length (spell_parts p values own items) ≡ length (spell_rows p.common (common_values p values)) + length (spell_rows p.head (head_values p values)) + (own_bits p.loop_form + items_bits p.items) + 8 * (own_taken p.loop_form own + items_taken p.items items)
 unfolding spell_parts
 parts_length laws p values own items =
-    let a = length-append (spell_rows p.common (common_values p values)) (spell_rows p.head (head_values p values) ++ (spell_own p.loop_form own ++ spell_behind p.items items)) in
-    let b = length-append (spell_rows p.head (head_values p values)) (spell_own p.loop_form own ++ spell_behind p.items items) in
-    let c = length-append (spell_own p.loop_form own) (spell_behind p.items items) in
-    omega (arith, own_length laws p.loop_form own, behind_length laws p.items items)
+    let a = length-append (spell_rows p.common (common_values p values)) (spell_rows p.head (head_values p values) ++ (spell_own p.loop_form own ++ spell_after p.items items)) in
+    let b = length-append (spell_rows p.head (head_values p values)) (spell_own p.loop_form own ++ spell_after p.items items) in
+    let c = length-append (spell_own p.loop_form own) (spell_after p.items items) in
+    omega (arith, own_length laws p.loop_form own, after_length laws p.items items)
 
 pub parts_whole : SpelledBits → (p : TablePage) (values : List Held) (own items : List ℕ) → IsTrue (page_sound p) → values_fit p values ≡ true → length (spell_parts p values own items) % 8 ≡ 0
 parts_whole laws p values own items sound fit =

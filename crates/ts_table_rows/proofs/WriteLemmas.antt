@@ -7,7 +7,7 @@ use Rattle.ts_fields.specs.declared.field.FieldValue.{FieldValue}
 use Rattle.ts_fields.specs.Layout.{Row, row, rows_of, held}
 use Rattle.ts_fields.specs.Spelling.{holds, spell_rows}
 use Rattle.ts_table_rows.specs.TablePages.{TablePage}
-use Rattle.ts_table_rows.specs.BodySpelling.{held_count, common_values, head_values, spell_own, spell_behind, spell_parts}
+use Rattle.ts_table_rows.specs.BodySpelling.{held_count, common_values, head_values, spell_own, spell_after, spell_parts}
 
 count-append : (a b : List Row) → held_count (a ++ b) ≡ held_count a + held_count b
 count-append [] b = omega arith
@@ -23,7 +23,7 @@ count_all rows i count all so_far = so_far ∙ ap (λ fs. held_count (rows_of fs
 
 -- a body written part by part
 pub parts_written : (p : TablePage) (values common head : List FieldValue) (count : ℕ) (own items : List ℕ) (old one two three four : List Bool) → count ≡ held_count p.common → common ≡ take count values → head ≡ drop count values
-    → one ≡ old ++ spell_rows p.common (map held common) → two ≡ one ++ spell_rows p.head (map held head) → three ≡ two ++ spell_own p.loop_form own → four ≡ three ++ spell_behind p.items items
+    → one ≡ old ++ spell_rows p.common (map held common) → two ≡ one ++ spell_rows p.head (map held head) → three ≡ two ++ spell_own p.loop_form own → four ≡ three ++ spell_after p.items items
     → four ≡ old ++ spell_parts p (map held values) own items
 unfolding spell_parts
 parts_written p values common head count own items old one two three four count_is common_is head_is a b c d =
@@ -32,7 +32,7 @@ parts_written p values common head count own items old one two three four count_
     let ca = spell_rows p.common (common_values p (map held values)) in
     let cb = spell_rows p.head (head_values p (map held values)) in
     let cc' = spell_own p.loop_form own in
-    let cd = spell_behind p.items items in
+    let cd = spell_after p.items items in
     let front : two ≡ (old ++ ca) ++ cb = b ∙ ap (λ l. l ++ spell_rows p.head (map held head)) (a ∙ ap (λ v. old ++ spell_rows p.common v) first) ∙ ap (λ v. (old ++ ca) ++ spell_rows p.head v) others in
     d ∙ ap (λ l. l ++ cd) (c ∙ ap (λ l. l ++ cc') front)
     ∙ append_assoc ((old ++ ca) ++ cb) cc' cd ∙ append_assoc (old ++ ca) cb (cc' ++ cd) ∙ append_assoc old ca (cb ++ (cc' ++ cd))

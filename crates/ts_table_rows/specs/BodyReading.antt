@@ -155,11 +155,11 @@ read_counted_items one_zero i seen from = do
   Ok items
 
 -- what follows the descriptors of the table itself: items, or nothing
-unfoldable pub read_behind : Bool → Option ItemPage → Bool → List Bool → Result (List ItemHolding × Bool) Fault
-read_behind one_zero None seen from = do
+unfoldable pub read_after : Bool → Option ItemPage → Bool → List Bool → Result (List ItemHolding × Bool) Fault
+read_after one_zero None seen from = do
   _ ← nothing_left (length from)
   Ok ([], seen)
-read_behind one_zero (Some i) seen from =
+read_after one_zero (Some i) seen from =
     if i.counted then read_counted_items one_zero i seen from else read_items (length from) one_zero i seen 0 from
 
 -- what the sections so far have shown: the number that all sections have in common, if there was a section, and
@@ -194,5 +194,5 @@ unfoldable pub read_body : TablePage → Seen → List Bool → Result (BodyHold
 read_body p seen from = do
   heading ← read_heading p seen.first from
   own ← read_loop p.loop_form heading.2
-  items ← read_behind p.one_zero p.items seen.zero own.1
+  items ← read_after p.one_zero p.items seen.zero own.1
   Ok (record { values = heading.0; descriptors = own.0; items = items.0 }, record { first = heading.1; zero = items.1 })

@@ -47,9 +47,9 @@ spell_own Counted row = spell_counted row
 spell_own ToEnd row = bits_of row
 
 -- the items, given as bytes
-abbrev pub spell_behind : Option ItemPage → List ℕ → List Bool
-spell_behind None row = []
-spell_behind (Some i) row = if i.counted then bits 4 15 ++ spell_counted row else bits_of row
+abbrev pub spell_after : Option ItemPage → List ℕ → List Bool
+spell_after None row = []
+spell_after (Some i) row = if i.counted then bits 4 15 ++ spell_counted row else bits_of row
 
 -- the number of values of some rows
 abbrev pub held_count : List Row → ℕ
@@ -67,7 +67,7 @@ head_values p values = drop (held_count p.common) values
 unfoldable pub spell_parts : TablePage → List Held → List ℕ → List ℕ → List Bool
 spell_parts p values own items =
     spell_rows p.common (common_values p values)
-    ++ (spell_rows p.head (head_values p values) ++ (spell_own p.loop_form own ++ spell_behind p.items items))
+    ++ (spell_rows p.head (head_values p values) ++ (spell_own p.loop_form own ++ spell_after p.items items))
 
 -- a body as bytes
 abbrev pub body_row : TablePage → BodyHolding → List ℕ

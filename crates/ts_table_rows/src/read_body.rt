@@ -66,8 +66,8 @@ fn read_counted_items<'a>(
 }
 
 /// Reads what follows the descriptors of the table itself: items, or nothing.
-#[tactic(auto, unfolding(crate::specs::BodyReading::read_behind))]
-fn read_behind<'a>(
+#[tactic(auto, unfolding(crate::specs::BodyReading::read_after))]
+fn read_after<'a>(
     alloc: Global,
     one_zero: bool,
     items: Option<ItemForm>,
@@ -76,7 +76,7 @@ fn read_behind<'a>(
 ) -> Result<(Vec<TableItem>, bool), BodyStop>
     requires { IsTrue (items_sound (option_map item_page items)) }
     ensures { Answers (λ x. (map item_held x.0.items, x.1)) result
-        (BodyReading.read_behind one_zero (option_map item_page items) seen from.entry) }
+        (BodyReading.read_after one_zero (option_map item_page items) seen from.entry) }
 {
     match items {
         Some(form) if form.counted => read_counted_items(alloc, one_zero, form, seen, from),
@@ -149,7 +149,7 @@ pub fn read_body<'a>(
 {
     let (values, first, rest) = read_heading(alloc, layout, seen.first, from)?;
     let (descriptors, rest) = read_own_loop(alloc, layout.loop_form, rest)?;
-    let (items, zero) = read_behind(alloc, layout.one_zero, layout.items, seen.zero, rest)?;
+    let (items, zero) = read_after(alloc, layout.one_zero, layout.items, seen.zero, rest)?;
     let body = TableBody {
         values,
         descriptors,

@@ -2,7 +2,7 @@
 
 ghost use Rattle.std.specs.Prelude.{◌≡◌, ◌<◌, ℕ, Bool, List, length, true, All, Ok, IsTrue};
 ghost use Rattle.ts_table_rows.specs.BodyReading.{read_next};
-ghost use Rattle.ts_section.specs.LawfulSection.{IsSection};
+ghost use Rattle.ts_section.specs.ValidSection.{IsSection};
 ghost use Rattle.ts_table_rows.specs.RunReading.{read_run};
 ghost use Rattle.ts_table_rows.specs.TableFitting.{table_fits};
 ghost use Rattle.ts_table_rows.specs.TablePages.{ItemPage, TablePage, item_sound};

@@ -11,7 +11,7 @@ use ts_fields::{
     fit_rows_are_shaped, length_of_bits, length_of_spelled_rows, read_bytes_are_spelled,
     spelled_bytes_are_read, spelled_number_is_read, spelled_rows_are_read,
 };
-use ts_section::made_sections_are_lawful;
+use ts_section::made_sections_are_valid;
 
 /// A table that is written is read again: for each layout, the sections of a table that it can hold, read as a run,
 /// give exactly that table. They are a whole run where the layout keeps the section numbers exactly for the table_ids
@@ -30,5 +30,5 @@ pub fn written_tables_are_read()
     spelled_bytes_are_read();
     read_bytes_are_spelled();
     loops_are_whole_or_cut();
-    made_sections_are_lawful();
+    made_sections_are_valid();
 }

@@ -5,7 +5,7 @@ ghost use Rattle.ts_bits.specs.TaggedBody.{IsDescriptor, descriptor_bytes};
 ghost use Rattle.ts_fields.specs.Fitting.{are_bytes};
 ghost use Rattle.ts_fields.specs.Layout.{held, rows_of};
 ghost use Rattle.ts_table_rows.specs.BodySpelling;
-ghost use Rattle.ts_table_rows.specs.BodySpelling.{spell_counted, spell_described, spell_item, spell_own, spell_behind, spell_parts, bytes_of};
+ghost use Rattle.ts_table_rows.specs.BodySpelling.{spell_counted, spell_described, spell_item, spell_own, spell_after, spell_parts, bytes_of};
 ghost use Rattle.ts_table_rows.specs.TableFitting.{item_fits, values_fit};
 ghost use Rattle.ts_table_rows.specs.TablePages.{item_page, item_sound, table_page, page_sound};
 ghost use Rattle.ts_table_rows.specs.TableValues.{item_held};
@@ -105,8 +105,8 @@ fn put_own(out: &mut BitWriter, form: LoopForm, row: &[u8]) -> Result<(), AllocE
 }
 
 /// Appends the items, given as bytes.
-fn put_behind(out: &mut BitWriter, items: Option<ItemForm>, row: &[u8]) -> Result<(), AllocError>
-    ensures { OnOk result (out.new ≡ out.old ++ spell_behind (option_map item_page items) row.now) }
+fn put_after(out: &mut BitWriter, items: Option<ItemForm>, row: &[u8]) -> Result<(), AllocError>
+    ensures { OnOk result (out.new ≡ out.old ++ spell_after (option_map item_page items) row.now) }
 {
     match items {
         None => Ok(()),
@@ -158,7 +158,7 @@ fn put_parts(
     write_rows(out, layout.common, common)?;
     write_rows(out, layout.head, head)?;
     put_own(out, layout.loop_form, own)?;
-    put_behind(out, layout.items, items)
+    put_after(out, layout.items, items)
 }
 
 /// The body of a section as bytes.

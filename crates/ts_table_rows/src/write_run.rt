@@ -133,7 +133,7 @@ fn one_section(
     number: usize,
     body: &[u8],
 ) -> Result<Section, AllocError>
-    requires lawful_id { head.table_id < 255 }
+    requires valid_id { head.table_id < 255 }
     requires version { head.version < 32 }
     requires number { number ≤ last }
     requires room { length body.now ≤ 4084 }

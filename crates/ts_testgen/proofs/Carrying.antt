@@ -1,7 +1,7 @@
 -- The rows of packets as they are made, from a null packet on.
 use Rattle.std.proofs.Common.{◌≡◌, ℕ, ◌+◌, ◌/◌, ◌%◌, ◌<◌, false, true, List, [], ◌∷◌, ◌++◌, length, drop, replicate, refl, ◌∙◌, ap, arith, append-nil}
 use Rattle.std.proofs.Math.ListN.{drop_of_length-le}
-use Rattle.bit_rows.specs.BitRow.{bit_of, field}
+use Rattle.ts_bit_rows.specs.BitRow.{bit_of, field}
 use Rattle.ts_packet.specs.Adaptation.{adaptation_length_of}
 use Rattle.ts_packet.specs.Header.{byte_with, with_pid, with_adaptation_control, with_counter}
 use Rattle.ts_packet.specs.Packet.{null_packet}

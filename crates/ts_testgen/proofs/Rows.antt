@@ -2,7 +2,7 @@
 -- by other means.
 use Rattle.std.proofs.Common.{◌≡◌, ℕ, List, [], ◌∷◌, ◌++◌, length, map, replicate, refl}
 use Rattle.std.specs.List.{concat}
-use Rattle.bit_rows.specs.BitRow.{bit_of, field}
+use Rattle.ts_bit_rows.specs.BitRow.{bit_of, field}
 use Rattle.ts_packet.specs.Header.{with_counter}
 use Rattle.ts_packet.specs.Packet.{null_packet}
 use Rattle.ts_packetize.specs.Packing.{pack, next_step, missing, not_begun}

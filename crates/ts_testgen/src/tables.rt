@@ -64,7 +64,7 @@ fn table_packet(
     body: &[u8],
 ) -> Result<Packet, AllocError>
     requires pid { pid < NULL_PID }
-    requires lawful_id { table_id < 255 }
+    requires valid_id { table_id < 255 }
     requires room { length body.now ≤ 170 }
     ensures { IfOk result (λ packet. packet ≡ table_packet pid (long_section (only_head table_id «private» extension) body.now)) }
 {

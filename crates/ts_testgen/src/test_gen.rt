@@ -55,7 +55,7 @@ impl TestGen {
     pub fn next_packet(&mut self) -> Packet
         requires { self.old.given < 2 ^ 60 }
         ensures packet { result ≡ generated self.old.seed self.old.given }
-        ensures lawful { IsPacket result }
+        ensures valid { IsPacket result }
         ensures next { self.new ≡ record { seed = self.old.seed; given = self.old.given + 1 } }
     {
         let r = mixed(self.seed, self.given);
@@ -74,7 +74,7 @@ fn packet_by(tables: &Tables, rule: Rule, r: u64, i: u64, counter: u8) -> Packet
     requires tables { AreTables tables.now.pat tables.now.first_pmt tables.now.second_pmt tables.now.sdt }
     requires counter { counter < 16 }
     ensures packet { result ≡ packet_by rule r i counter }
-    ensures lawful { IsPacket result }
+    ensures valid { IsPacket result }
 {
     match rule {
         Rule::Pat => counted(tables.pat, counter),
@@ -91,7 +91,7 @@ fn packet_by(tables: &Tables, rule: Rule, r: u64, i: u64, counter: u8) -> Packet
 fn counted(packet: Packet, counter: u8) -> Packet
     requires { counter < 16 }
     ensures row { result ≡ with_counter packet counter }
-    ensures lawful { IsPacket result }
+    ensures valid { IsPacket result }
 {
     let mut packet = packet;
     packet.set_counter(counter);

@@ -8,7 +8,7 @@ use Rattle.chain_core.specs.declared.closed.Closed.{Closed}
 use Rattle.chain_core.specs.declared.core_plan.CorePlan.{CorePlan}
 use Rattle.chain_model.specs.PluginRule.{PluginRule}
 use Rattle.chain_model.specs.Reports.{rules_of}
-use Rattle.plug_set.specs.Plugins.{steady_of}
+use Rattle.plugin_set.specs.Plugins.{preallocated_of}
 use Rattle.stage_run.specs.declared.input_part.InputPart.{InputPart}
 use Rattle.stage_run.specs.declared.output_part.OutputPart.{OutputPart}
 use Rattle.stage_run.specs.declared.stuffing.Stuffing.{Stuffing}
@@ -27,14 +27,14 @@ use Rattle.tsp_top.proofs.RanTheorem.{ran-theorem}
 use Rattle.tsp_top.proofs.RunLemmas.{ends-few, ends-reach, ends-rules}
 
 -- a chain that is ready has as many plugins as its numbers say
-pub ready-plugins : {P : Type 0} (rule : P → PluginRule) (stands : P → List Cell → ℕ → Type 0) (steady : P → Option ℕ)
+pub ready-plugins : {P : Type 0} (rule : P → PluginRule) (stands : P → List Cell → ℕ → Type 0) (preallocated : P → Option ℕ)
     (plan : Plan) (tables : List (List (List ℕ))) (stuffing : Stuffing) (numbers : CorePlan) (plugins : List (Heard P))
-    → IsReady rule stands steady plan tables stuffing numbers plugins → numbers.plugins ≡ length plugins
-ready-plugins rule stands steady plan tables stuffing numbers plugins ready =
+    → IsReady rule stands preallocated plan tables stuffing numbers plugins → numbers.plugins ≡ length plugins
+ready-plugins rule stands preallocated plan tables stuffing numbers plugins ready =
     ready.numbers_are.plugins
-    ∙ sym (length-map plan.plugins (λ item. steady_of item.conf numbers.buffer))
+    ∙ sym (length-map plan.plugins (λ item. preallocated_of item.conf numbers.buffer))
     ∙ ap (λ (l : List (Option ℕ)). length l) (sym ready.rooms)
-    ∙ length-map plugins (by_plugin steady)
+    ∙ length-map plugins (by_plugin preallocated)
 
 module _ {S K P : Type 0} (see : Seeing S K P) (inner : S → SourceView) (plan : Plan) (core : CorePlan) (old made : DeskView)
     (from made_from : InputPart S) (stuffing : Stuffing) (plugins back : List (Heard P)) (to made_to : OutputPart K)

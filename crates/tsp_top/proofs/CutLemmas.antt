@@ -11,7 +11,7 @@ use Rattle.chain_model.specs.PluginRule.{PluginRule}
 use Rattle.chain_model.specs.Apply.{StageList}
 use Rattle.chain_model.specs.StageLists.{end_list}
 use Rattle.chain_model.specs.Joint.{joint_position}
-use Rattle.chain_model.specs.Cut.{Ending, lesser_end, first_cause, causes_at, cause_among, endings_of, cut_of, cause_of, IsLawfulFault, IsPureClose}
+use Rattle.chain_model.specs.Cut.{Ending, lesser_end, first_cause, causes_at, cause_among, endings_of, cut_of, cause_of, IsValidFault, IsPureClose}
 use Rattle.chain_model.specs.declared.cause.Cause.{Cause}
 use Rattle.chain_model.specs.declared.cause.Cause.TheVariants.{Input, Joint, Until, Stop, Refuse, WriteFault, NoMemory}
 use Rattle.tsp_top.specs.StreamTheorem.{IsCutPart}
@@ -101,13 +101,13 @@ by-part cells cut (NoMemory k) part G is none some = none is
 
 -- a chain with a right cut is not cut after that of the run without faults
 cut-within : (rules : List PluginRule) (list : StageList) (users : List ℕ) (cut : ℕ) (why : Cause)
-    → IsPureClose rules list users cut why ⊎ IsLawfulFault rules list users cut why → cut ≤ cut_of rules list users
+    → IsPureClose rules list users cut why ⊎ IsValidFault rules list users cut why → cut ≤ cut_of rules list users
 cut-within rules list users cut why (inl pure) = omega (arith, pure.0)
 cut-within rules list users cut why (inr fault) = fault.within
 
 -- where a failed write ended it, joint termination did not
 write-not-joint : (rules : List PluginRule) (list : StageList) (users : List ℕ) (cut : ℕ) (why : Cause)
-    → IsPureClose rules list users cut why ⊎ IsLawfulFault rules list users cut why → why ≡ WriteFault → joint_position rules list users ≢ Some cut
+    → IsPureClose rules list users cut why ⊎ IsValidFault rules list users cut why → why ≡ WriteFault → joint_position rules list users ≢ Some cut
 write-not-joint rules list users cut why (inr fault) is = fault.not_joint
 write-not-joint rules list users cut why (inl pure) is = λ joint.
     let at : joint_position rules list users ≡ Some (cut_of rules list users) = joint ∙ ap Some pure.0 in
@@ -119,7 +119,7 @@ write-not-joint rules list users cut why (inl pure) is = λ joint.
 
 -- what is written up to the cut, with the part after it, begins what the run without faults writes
 pub written-begins : (rules : List PluginRule) (list : StageList) (users : List ℕ) (cut : ℕ) (why : Cause) (part : List ℕ)
-    → IsPureClose rules list users cut why ⊎ IsLawfulFault rules list users cut why → IsCutPart (end_list rules list).cells cut why part
+    → IsPureClose rules list users cut why ⊎ IsValidFault rules list users cut why → IsCutPart (end_list rules list).cells cut why part
     → IsPrefix (written (take cut (end_list rules list).cells) ++ part) (written (take (cut_of rules list users) (end_list rules list).cells))
 written-begins rules list users cut why part closes is =
     let cells : List Cell = (end_list rules list).cells in

@@ -11,13 +11,13 @@ use Rattle.chain_model.specs.Cut.{is_fault}
 use Rattle.chain_model.specs.InputList.{InputList, input_of_bytes}
 use Rattle.chain_model.specs.PureRun.{Chain, chain_cut, pure_run, written_to, reported_at}
 use Rattle.chain_model.specs.Stuffed.{Stuffing, stuffed}
-use Rattle.plug_set.specs.declared.plugin_item.PluginItem.{PluginItem}
+use Rattle.plugin_set.specs.declared.plugin_item.PluginItem.{PluginItem}
 use Rattle.chain_args.specs.PlanOf.{plan_of}
 use Rattle.chain_args.specs.WordsFault.{IsFirstFault}
 use Rattle.chain_args.specs.declared.input_conf.InputConf.{InputConf}
 use Rattle.chain_args.specs.declared.input_conf.InputConf.TheVariants as input
 use Rattle.chain_args.specs.declared.plan_type.Plan.{Plan}
-use Rattle.option_words.specs.declared.words_rule.WordsRule.{WordsRule}
+use Rattle.plugin_options.specs.declared.words_rule.WordsRule.{WordsRule}
 use Rattle.chain_args.specs.declared.words_fault.WordsFault.TheVariants.{At}
 use Rattle.packet_forms.specs.Stripped.{stripped}
 use Rattle.ts_outside.specs.Count.{HasCause, IsQuiet}
@@ -27,7 +27,7 @@ use Rattle.ts_outside.specs.Entries.{outputs_with}
 use Rattle.ts_outside.specs.Faultless.{NothingFails}
 use Rattle.tsp_top.specs.CallOutcome.{CallOutcome, no_input, no_output, ran, unreported, out_of_memory, status_of, status_when_late, FaultRose, StatusTellsCause}
 use Rattle.tsp_top.specs.CanEnd.{CanEnd, CanEndBy}
-use Rattle.tsp_top.specs.MemoryFirst.{IsSteady, AreSteady, NoStageWants, TakesLater}
+use Rattle.tsp_top.specs.MemoryFirst.{IsPreallocated, ArePreallocated, NoStageWants, TakesLater}
 use Rattle.tsp_top.specs.PlannedChain.{chain_of, input_of, named_rules, output_name, stuffing_of, users_from, users_of}
 use Rattle.tsp_top.specs.PlannedTables.{AreTables, tables_asked}
 use Rattle.tsp_top.specs.StreamTheorem.{EndsRight, IsWrittenTo, Writes, Reports}
@@ -214,19 +214,19 @@ same-but-sizes one other tables files same =
     ∙ ap (λ (b : Bool). U one.plugins b) same.ignored
 
 -- of plugins that all take their room before the run none takes it later
-none-later : (items : List PluginItem) (j : ℕ) → AllByRecursion IsSteady items → TakesLater items j → ⊥
+none-later : (items : List PluginItem) (j : ℕ) → AllByRecursion IsPreallocated items → TakesLater items j → ⊥
 none-later [] j all later = later
 none-later (item ∷ items) zero all later = later all.0
 none-later (item ∷ items) (suc j) all later = none-later items j all.1 later
 
-no-want : (plan : Plan) (why : Cause) → AreSteady plan.plugins → CanEndBy plan why → NoStageWants why
-no-want plan why steady can zero is = subst (λ (w : Cause). CanEndBy plan w) is can
-no-want plan why steady can (suc j) is =
-    none-later plan.plugins j (all_by_recursion IsSteady plan.plugins steady) (subst (λ (w : Cause). CanEndBy plan w) is can)
+no-want : (plan : Plan) (why : Cause) → ArePreallocated plan.plugins → CanEndBy plan why → NoStageWants why
+no-want plan why preallocated can zero is = subst (λ (w : Cause). CanEndBy plan w) is can
+no-want plan why preallocated can (suc j) is =
+    none-later plan.plugins j (all_by_recursion IsPreallocated plan.plugins preallocated) (subst (λ (w : Cause). CanEndBy plan w) is can)
 
 -- what is left where memory ran out, of plugins that take their room first
 module _ (plan : Plan) (tables : List (List (List ℕ))) (files : List (List ℕ × List ℕ)) (old new : DeskView) (tables_are : AreTables old plan.plugins tables) (files_are : IfSome old.files (λ told. files ≡ told))
-    (steady : AreSteady plan.plugins) where
+    (preallocated : ArePreallocated plan.plugins) where
   abbrev behind : DeskView
   behind = tables_asked old plan
 
@@ -255,9 +255,9 @@ module _ (plan : Plan) (tables : List (List (List ℕ))) (files : List (List ℕ
       → Writes plan (chain_of plan tables files) behind new end → Reports (chain_of plan tables files) behind new end → WantsMemoryFirst plan old new
   wants-first no_input tells first right writes reports = absurd (let e = tells.0 in cc)
   wants-first no_output tells first right writes reports = absurd (let e = tells.0 in cc)
-  wants-first (ran cut why late) tells first right writes reports = absurd (not-done why late (no-want plan why steady first) tells.0)
+  wants-first (ran cut why late) tells first right writes reports = absurd (not-done why late (no-want plan why preallocated first) tells.0)
   wants-first (unreported cut why) tells first right writes reports =
-      (reports, inr (inr (record { tables = tables; tables_are = tables_are; files = files; files_are = files_are; cut = cut; why = why; no_want = no-want plan why steady first; pure_or_fault = right; written = writes })))
+      (reports, inr (inr (record { tables = tables; tables_are = tables_are; files = files; files_are = files_are; cut = cut; why = why; no_want = no-want plan why preallocated first; pure_or_fault = right; written = writes })))
   wants-first out_of_memory tells first right writes reports =
       (reports, elim writes [ inl none ↦ inl none | inr empty ↦ inr (inl empty) ])
 
@@ -268,22 +268,22 @@ wants-at-once plan old new same = (
   inl (ap (λ (d : DeskView). d.outputs) same),
 )
 
-planned-first : (plan : Plan) (old new : DeskView) (answer : Status) → AreSteady plan.plugins → CallsPlan plan old new answer → answer ≡ status.NoMemory → WantsMemoryFirst plan old new
-planned-first plan old new answer steady (inl runs) want =
+planned-first : (plan : Plan) (old new : DeskView) (answer : Status) → ArePreallocated plan.plugins → CallsPlan plan old new answer → answer ≡ status.NoMemory → WantsMemoryFirst plan old new
+planned-first plan old new answer preallocated (inl runs) want =
     let t = runs.theorem in
-    wants-first plan runs.tables t.files old new runs.tables_are t.files_are steady t.end
+    wants-first plan runs.tables t.files old new runs.tables_are t.files_are preallocated t.end
     (subst (λ (s : Status). StatusTellsCause (output_name plan.output) (tables_asked old plan) new s t.end) want t.status_tells_cause) t.can_end t.pure_or_fault t.written t.reported
-planned-first plan old new answer steady (inr (inl ends)) want =
+planned-first plan old new answer preallocated (inr (inl ends)) want =
     absurd (ends-not-wanting (length ends.before + 1) ends.ends.2.end (sym want ∙ ends.ends.2.status_is))
-planned-first plan old new answer steady (inr (inr wants)) want = (
+planned-first plan old new answer preallocated (inr (inr wants)) want = (
   (ap (λ (d : DeskView). d.reported) wants.desk_is, ap (λ (d : DeskView). d.report_faults) wants.desk_is),
   inl (ap (λ (d : DeskView). d.outputs) wants.desk_is),
 )
 
 pub memory-first : (words : List (List ℕ)) (plan : Plan) (old new : DeskView) (answer : Status)
-    → plan_of words ≡ Some plan → AreSteady plan.plugins → CallsTsp words old new answer → answer ≡ status.NoMemory → WantsMemoryFirst plan old new
-memory-first words plan old new answer is steady calls want =
+    → plan_of words ≡ Some plan → ArePreallocated plan.plugins → CallsTsp words old new answer → answer ≡ status.NoMemory → WantsMemoryFirst plan old new
+memory-first words plan old new answer is preallocated calls want =
     elim (planned-call words plan old new answer is calls) [
-      | inl planned ↦ planned-first plan old new answer steady planned want
+      | inl planned ↦ planned-first plan old new answer preallocated planned want
       | inr wanting ↦ wants-at-once plan old new wanting.1
     ]

@@ -14,5 +14,5 @@ pub mod BeginLemmas
 pub mod TableLemmas
 pub mod TableFacts
 pub mod HeadlineLemmas
-pub mod SteadyLemmas
+pub mod PreallocatedLemmas
 pub mod Rows

@@ -12,7 +12,7 @@ use Rattle.chain_model.specs.PluginRule.{PluginRule}
 use Rattle.chain_model.specs.Apply.{StageList}
 use Rattle.chain_model.specs.StageLists.{end_list}
 use Rattle.chain_model.specs.Written.{written}
-use Rattle.chain_model.specs.Cut.{cut_of, IsLawfulFault, IsPureClose}
+use Rattle.chain_model.specs.Cut.{cut_of, IsValidFault, IsPureClose}
 use Rattle.chain_model.specs.PureRun.{chain_rules, reported_at}
 use Rattle.chain_model.specs.Reports.{rules_of, reports}
 use Rattle.chain_model.specs.Stuffed.{stuffed}
@@ -20,11 +20,11 @@ use Rattle.chain_model.specs.Stuffed as model
 use Rattle.chain_core.specs.Stages.{stages_of}
 use Rattle.chain_core.specs.declared.closed.Closed.{Closed}
 use Rattle.chain_core.specs.declared.core_plan.CorePlan.{CorePlan}
-use Rattle.plug_set.specs.declared.plugin_item.PluginItem.{PluginItem}
+use Rattle.plugin_set.specs.declared.plugin_item.PluginItem.{PluginItem}
 use Rattle.chain_args.specs.declared.plan_type.Plan.{Plan}
-use Rattle.plugin_trait.specs.Steps.{IsSteadyFor}
+use Rattle.plugin_trait.specs.Steps.{IsPreallocatedFor}
 use Rattle.plugin_trait.specs.declared.heard.Heard.{Heard}
-use Rattle.stage_run.specs.Seeing.{Seeing, heard_rule, heard_steady}
+use Rattle.stage_run.specs.Seeing.{Seeing, heard_rule, heard_preallocated}
 use Rattle.stage_run.specs.declared.input_part.InputPart.{InputPart}
 use Rattle.stage_run.specs.declared.output_part.OutputPart.{OutputPart}
 use Rattle.stage_run.specs.InputStands as stage
@@ -39,7 +39,7 @@ use Rattle.ts_outside.specs.Desk.{DeskView}
 use Rattle.ts_outside.specs.Saying.{Says}
 use Rattle.ts_outside.specs.Entries.{asked_for, outputs_with}
 use Rattle.chain_run.specs.RunOf.{LeftInput, LeftOutput, RunOf}
-use Rattle.plug_set.specs.Plugins.{steady_of}
+use Rattle.plugin_set.specs.Plugins.{preallocated_of}
 use Rattle.tsp_top.specs.CallOutcome.{ran, unreported, out_of_memory, status_of, status_when_late, FaultRose, LateRose}
 use Rattle.tsp_top.specs.CanEnd.{CanEndBy}
 use Rattle.tsp_top.specs.MemoryFirst.{TakesLater}
@@ -260,18 +260,18 @@ WritesOf plan old new cut why rules list users =
 
 -- a plugin that made no room for the buffer does not take it before the run
 takes-later : (items : List PluginItem) (buffer j : ℕ) → j < length items
-    → (IsSteadyFor (slice_index_or (map (λ item. steady_of item.conf buffer) items) j None) buffer → ⊥) → TakesLater items j
+    → (IsPreallocatedFor (slice_index_or (map (λ item. preallocated_of item.conf buffer) items) j None) buffer → ⊥) → TakesLater items j
 takes-later [] buffer j less no_room = absurd (omega arith)
-takes-later (item ∷ items) buffer zero less no_room = λ steady.
-    let S : Option ℕ → Type 0 = λ o. IsSteadyFor o buffer in
+takes-later (item ∷ items) buffer zero less no_room = λ preallocated.
+    let S : Option ℕ → Type 0 = λ o. IsPreallocatedFor o buffer in
     let enough : S (Some buffer) = omega arith in
-    no_room (subst S (sym (steady buffer)) enough)
+    no_room (subst S (sym (preallocated buffer)) enough)
 takes-later (item ∷ items) buffer (suc j) less no_room = takes-later items buffer j (omega arith) no_room
 
 module _ {S K P : Type 0} (see : Seeing S K P) (inner : S → SourceView) (plan : Plan) (tables : List (List (List ℕ))) (old made new : DeskView) (from made_from : InputPart S) (stuffing : Stuffing)
     (plugins : List (Heard P)) (to made_to : OutputPart K) (failed : Bool) (numbers : CorePlan) (closed : Closed)
     (opened : Opened see.source inner see.sink plan old made from to) (through : IsThrough see.source inner made_from)
-    (ready : IsReady see.rule see.stands see.steady plan tables stuffing numbers plugins) where
+    (ready : IsReady see.rule see.stands see.preallocated plan tables stuffing numbers plugins) where
   abbrev d2 : DeskView
   d2 = input_closed_as inner made made_from
 
@@ -304,14 +304,14 @@ module _ {S K P : Type 0} (see : Seeing S K P) (inner : S → SourceView) (plan 
         ready.rules chosen.list_is ready.numbers_are.users h
 
     want : (k : ℕ) → closed.cause ≡ cause.NoMemory k → CanEndBy plan (cause.NoMemory k)
-    want zero is = absurd (let a = (run.memory zero is).behind_input in omega arith)
+    want zero is = absurd (let a = (run.memory zero is).after_input in omega arith)
     want (suc j) is =
         let wants = run.memory (suc j) is in
-        let same : length (map (heard_steady see) plugins) ≡ length plan.plugins = ap (λ (l : List (Option ℕ)). length l) ready.rooms ∙ length-map plan.plugins (λ item. steady_of item.conf numbers.buffer) in
+        let same : length (map (heard_preallocated see) plugins) ≡ length plan.plugins = ap (λ (l : List (Option ℕ)). length l) ready.rooms ∙ length-map plan.plugins (λ item. preallocated_of item.conf numbers.buffer) in
         let at : suc j - 1 ≡ j = omega arith in
-        let F : List (Option ℕ) → ℕ → Type 0 = λ rooms i. IsSteadyFor (slice_index_or rooms i None) numbers.buffer → ⊥ in
-        let no_room : F (map (λ item. steady_of item.conf numbers.buffer) plan.plugins) j =
-        subst (λ (i : ℕ). F (map (λ item. steady_of item.conf numbers.buffer) plan.plugins) i) at (subst (λ (rooms : List (Option ℕ)). F rooms (suc j - 1)) ready.rooms wants.no_room) in
+        let F : List (Option ℕ) → ℕ → Type 0 = λ rooms i. IsPreallocatedFor (slice_index_or rooms i None) numbers.buffer → ⊥ in
+        let no_room : F (map (λ item. preallocated_of item.conf numbers.buffer) plan.plugins) j =
+        subst (λ (i : ℕ). F (map (λ item. preallocated_of item.conf numbers.buffer) plan.plugins) i) at (subst (λ (rooms : List (Option ℕ)). F rooms (suc j - 1)) ready.rooms wants.no_room) in
         takes-later plan.plugins numbers.buffer j (let b = wants.there_is in omega arith) no_room
 
     writes : LeavesAll d3 new → WritesOf plan old new closed.cut closed.cause own run.list users
@@ -333,7 +333,7 @@ module _ {S K P : Type 0} (see : Seeing S K P) (inner : S → SourceView) (plan 
           (read-named see.source inner old plan.input from made_from (stage.stuffing_of stuffing) numbers.buffer closed.cut closed.cause opened.input run.input)
           (write-named see.sink (asked_input old plan.input) plan.output to made_to cells closed.cut closed.cause opened.output run.output)
           want;
-      closes = of-plan (λ rs l us. IsPureClose rs l us closed.cut closed.cause ⊎ IsLawfulFault rs l us closed.cut closed.cause) run.closes;
+      closes = of-plan (λ rs l us. IsPureClose rs l us closed.cut closed.cause ⊎ IsValidFault rs l us closed.cut closed.cause) run.closes;
       reads = reads-to see.source inner old made new chosen.files plan.general plan.input from made_from (stage.stuffing_of stuffing) numbers.buffer closed.cut closed.cause
           ready.stuffing_is (size-within plan.general.buffer_packets default_buffer numbers.buffer ready.numbers_are.buffer) chosen.files_are opened.input through steps.made_inputs (leaves.closed_in ∙ steps.inputs) run.input;
       written = of-plan (WritesOf plan old new closed.cut closed.cause) (writes leaves);
@@ -363,7 +363,7 @@ module _ {S K P : Type 0} (see : Seeing S K P) (inner : S → SourceView) (plan 
 pub ran-theorem : {S K P : Type 0} (see : Seeing S K P) (inner : S → SourceView) (plan : Plan) (tables : List (List (List ℕ))) (stuffing : Stuffing) (numbers : CorePlan) (old made new : DeskView) (from : InputPart S) (plugins : List (Heard P)) (to : OutputPart K) (st : Status)
     → made ≡ asked_output (asked_input old plan.input) plan.output
     → OpensInput see.source inner old plan.input from → OpensOutput see.sink (asked_input old plan.input) plan.output to
-    → IsReady see.rule see.stands see.steady plan tables stuffing numbers plugins
+    → IsReady see.rule see.stands see.preallocated plan tables stuffing numbers plugins
     → RanOpened see inner plan tables stuffing numbers made new from plugins to st
     → StreamTheorem plan tables old new st
 ran-theorem {S} {K} {P} see inner plan tables stuffing numbers old made new from plugins to st is opens_in opens_out ready run =

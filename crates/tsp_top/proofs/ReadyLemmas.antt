@@ -8,30 +8,30 @@ use Rattle.chain_model.specs.Reports.{rules_of}
 use Rattle.plugin_trait.specs.declared.heard.Heard.{Heard}
 use Rattle.plugin_trait.specs.HeardStands.{HeardStands}
 use Rattle.chain_run.specs.Fresh.{AreFresh}
-use Rattle.plug_set.specs.Items.{rule_of_item}
-use Rattle.plug_set.specs.Plugins.{steady_of}
-use Rattle.plug_set.specs.declared.plugin_item.PluginItem.{PluginItem}
+use Rattle.plugin_set.specs.Items.{rule_of_item}
+use Rattle.plugin_set.specs.Plugins.{preallocated_of}
+use Rattle.plugin_set.specs.declared.plugin_item.PluginItem.{PluginItem}
 use Rattle.tsp_top.specs.PlannedChain.{first_table, later_tables, named_rules}
 use Rattle.tsp_top.proofs.CallLemmas.{fresh_push}
 
 -- one more plugin that met no cell
-pub record OneMore {P : Type 0} (rule : P → PluginRule) (stands : P → List Cell → ℕ → Type 0) (steady : P → Option ℕ)
+pub record OneMore {P : Type 0} (rule : P → PluginRule) (stands : P → List Cell → ℕ → Type 0) (preallocated : P → Option ℕ)
     (plugins more : List P) (r : PluginRule) (room : Option ℕ) : Type 0 where
   pub rules : map rule more ≡ map rule plugins ++ r ∷ []
-  pub rooms : map steady more ≡ map steady plugins ++ room ∷ []
+  pub rooms : map preallocated more ≡ map preallocated plugins ++ room ∷ []
   pub fresh : AreFresh stands more
 
-pub one_more : {P E : Type 0} (rule : P → PluginRule) (stands : P → List Cell → ℕ → Type 0) (steady : P → Option ℕ)
+pub one_more : {P E : Type 0} (rule : P → PluginRule) (stands : P → List Cell → ℕ → Type 0) (preallocated : P → Option ℕ)
     (plugins more : List P) (r : PluginRule) (room : Option ℕ) (made : Result P E)
     → AreFresh stands plugins → IsOkAnd made (λ plugin. more ≡ plugins ++ plugin ∷ [])
-    → IfOk made (λ plugin. rule plugin ≡ r) → IfOk made (λ plugin. stands plugin [] 0) → IfOk made (λ plugin. steady plugin ≡ room)
-    → OneMore rule stands steady plugins more r room
-one_more {P} rule stands steady plugins more r room (Ok plugin) before is has_rule fresh has_room = record {
+    → IfOk made (λ plugin. rule plugin ≡ r) → IfOk made (λ plugin. stands plugin [] 0) → IfOk made (λ plugin. preallocated plugin ≡ room)
+    → OneMore rule stands preallocated plugins more r room
+one_more {P} rule stands preallocated plugins more r room (Ok plugin) before is has_rule fresh has_room = record {
   rules = ap (λ (l : List P). map rule l) is ∙ map-append rule plugins (plugin ∷ []) ∙ ap (λ (q : PluginRule). map rule plugins ++ q ∷ []) has_rule;
-  rooms = ap (λ (l : List P). map steady l) is ∙ map-append steady plugins (plugin ∷ []) ∙ ap (λ (q : Option ℕ). map steady plugins ++ q ∷ []) has_room;
+  rooms = ap (λ (l : List P). map preallocated l) is ∙ map-append preallocated plugins (plugin ∷ []) ∙ ap (λ (q : Option ℕ). map preallocated plugins ++ q ∷ []) has_room;
   fresh = rw is (fresh_push stands plugins plugin before fresh);
 }
-one_more rule stands steady plugins more r room (Err e) before is has_rule fresh has_room = absurd is
+one_more rule stands preallocated plugins more r room (Err e) before is has_rule fresh has_room = absurd is
 
 -- what holds of a plugin that was made holds of it without lines
 pub heard_is : {P E : Type 0} (made : Result P E) (heard : Result (Heard P) E)
@@ -49,13 +49,13 @@ heard_fresh rule stands (Err e) (Ok h) is none fresh = absurd is
 heard_fresh rule stands made (Err e) is none fresh = tt
 
 -- the rules and the rooms of the plugins after it come after its own
-pub rules_behind : {P : Type 0} (rule : P → PluginRule) (plugins more all : List P) (items rest : List PluginItem) (item : PluginItem)
+pub rules_after : {P : Type 0} (rule : P → PluginRule) (plugins more all : List P) (items rest : List PluginItem) (item : PluginItem)
     (tables later : List (List (List ℕ))) (table : List (List ℕ))
     → items ≡ item ∷ rest → table ≡ first_table tables → later ≡ later_tables tables
     → map rule more ≡ map rule plugins ++ rule_of_item item table ∷ []
     → map rule all ≡ map rule more ++ rules_of (named_rules rest later)
     → map rule all ≡ map rule plugins ++ rules_of (named_rules items tables)
-rules_behind rule plugins more all items rest item tables later table split first behind one those =
+rules_after rule plugins more all items rest item tables later table split first behind one those =
     let own : List PluginRule = map rule plugins in
     those
     ∙ ap (λ (l : List PluginRule). l ++ rules_of (named_rules rest later)) one
@@ -64,14 +64,14 @@ rules_behind rule plugins more all items rest item tables later table split firs
     ∙ ap (λ (ts : List (List (List ℕ))). own ++ rule_of_item item (first_table tables) ∷ rules_of (named_rules rest ts)) behind
     ∙ ap (λ (l : List PluginItem). own ++ rules_of (named_rules l tables)) (sym split)
 
-pub rooms_behind : {P : Type 0} (steady : P → Option ℕ) (buffer : ℕ) (plugins more all : List P) (items rest : List PluginItem) (item : PluginItem)
+pub rooms_after : {P : Type 0} (preallocated : P → Option ℕ) (buffer : ℕ) (plugins more all : List P) (items rest : List PluginItem) (item : PluginItem)
     → items ≡ item ∷ rest
-    → map steady more ≡ map steady plugins ++ steady_of item.conf buffer ∷ []
-    → map steady all ≡ map steady more ++ map (λ i. steady_of i.conf buffer) rest
-    → map steady all ≡ map steady plugins ++ map (λ i. steady_of i.conf buffer) items
-rooms_behind steady buffer plugins more all items rest item split one those =
-    let own : List (Option ℕ) = map steady plugins in
-    let room : PluginItem → Option ℕ = λ i. steady_of i.conf buffer in
+    → map preallocated more ≡ map preallocated plugins ++ preallocated_of item.conf buffer ∷ []
+    → map preallocated all ≡ map preallocated more ++ map (λ i. preallocated_of i.conf buffer) rest
+    → map preallocated all ≡ map preallocated plugins ++ map (λ i. preallocated_of i.conf buffer) items
+rooms_after preallocated buffer plugins more all items rest item split one those =
+    let own : List (Option ℕ) = map preallocated plugins in
+    let room : PluginItem → Option ℕ = λ i. preallocated_of i.conf buffer in
     those
     ∙ ap (λ (l : List (Option ℕ)). l ++ map room rest) one
     ∙ append_assoc own (room item ∷ []) (map room rest)

@@ -9,10 +9,10 @@ use Rattle.chain_model.specs.declared.cause.Cause.{Cause}
 use Rattle.chain_model.specs.Reports.{NamedRule, plugin_line, said_of, rules_of, reports_from, reports, end_line}
 use Rattle.plugin_trait.specs.Marks.{AllowsMark}
 use Rattle.chain_run.specs.Met.{AllMetTo}
-use Rattle.plug_set.specs.declared.plugin_item.PluginItem.{PluginItem}
-use Rattle.plug_set.specs.Items.{rule_of_item}
+use Rattle.plugin_set.specs.declared.plugin_item.PluginItem.{PluginItem}
+use Rattle.plugin_set.specs.Items.{rule_of_item}
 use Rattle.tsp_top.specs.PlannedChain.{first_table, later_tables, named_rules}
-use Rattle.plug_set.specs.Plugins.{name_of}
+use Rattle.plugin_set.specs.Plugins.{name_of}
 use Rattle.tsp_top.specs.Reported.{ReachesCut}
 
 -- the first of plugins that reach the cut may be given it, and those after it reach it

@@ -16,7 +16,7 @@ use Rattle.chain_run.specs.Met.{AllMetTo}
 use Rattle.chain_run.specs.RunOf.{RunOf}
 use Rattle.chain_run.proofs.RunUses.{met-to}
 use Rattle.std.proofs.lemmas.List.{length-map}
-use Rattle.plug_set.specs.declared.plugin_item.PluginItem.{PluginItem}
+use Rattle.plugin_set.specs.declared.plugin_item.PluginItem.{PluginItem}
 use Rattle.chain_args.specs.declared.plan_type.Plan.{Plan}
 use Rattle.chain_model.specs.Reports.{rules_of}
 use Rattle.tsp_top.specs.PlannedChain.{later_tables, named_rules}
@@ -85,11 +85,11 @@ length-named_rules (item ∷ items) tables = ap suc (length-named_rules items (l
 
 pub ends-few : {S K P : Type 0} (see : Seeing S K P) (stuffing : Stuffing) (core : CorePlan) (from made_from : InputPart S) (plugins made : List (Heard P))
     (to made_to : OutputPart K) (closed : Result Closed AllocError) (plan : Plan) (tables : List (List (List ℕ)))
-    → EndsRun see stuffing core from made_from plugins made to made_to closed → IsReady see.rule see.stands see.steady plan tables stuffing core plugins → length made ≤ 62
+    → EndsRun see stuffing core from made_from plugins made to made_to closed → IsReady see.rule see.stands see.preallocated plan tables stuffing core plugins → length made ≤ 62
 ends-few see stuffing core from made_from plugins made to made_to closed plan tables ends ready =
     let rules = ends-rules see stuffing core from made_from plugins made to made_to closed (rules_of (named_rules plan.plugins tables)) ends ready.rules in
     let count : length made ≡ length plan.plugins =
     sym (length-map made (heard_rule see)) ∙ ap (λ (l : List PluginRule). length l) rules ∙ length-named_rules plan.plugins tables in
-    let few : core.plugins ≤ 62 = ready.numbers_are.lawful.plugins in
+    let few : core.plugins ≤ 62 = ready.numbers_are.valid.plugins in
     let same : core.plugins ≡ length plan.plugins = ready.numbers_are.plugins in
     omega (arith, count, few, same)

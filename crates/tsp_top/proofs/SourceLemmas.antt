@@ -24,8 +24,8 @@ use Rattle.chain_run.specs.SourceRead.{CutsAtFault, ReadsSource}
 use Rattle.packet_forms.specs.declared.forms.Form.{Form}
 use Rattle.packet_forms.specs.Stripped.{unit, stripped, stripped_from}
 use Rattle.packet_forms.proofs.Strips.{some-raw}
-use Rattle.form_source.specs.FormView.{form_view, ReadsThrough}
-use Rattle.form_source.proofs.Through.{ReadOf, read-of, same-origin}
+use Rattle.packet_forms.specs.FormView.{form_view, ReadsThrough}
+use Rattle.packet_forms.proofs.Through.{ReadOf, read-of, same-origin}
 use Rattle.ts_outside.specs.Count.{raised, HasCause}
 use Rattle.ts_outside.specs.Told.{before}
 use Rattle.ts_outside.specs.Source.{SourceView, Origin, own_bytes, unread, read_failed}

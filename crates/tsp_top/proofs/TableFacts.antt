@@ -1,9 +1,9 @@
 -- What follows of tables over a desk whose files are known: they are one, and no file ends the call.
 use Rattle.std.proofs.Common.{◌≡◌, ℕ, List, [], ◌∷◌, ◌++◌, ◌+◌, length, Bool, Option, None, Some, IfSome, Result, Ok, Err, refl, ap, sym, ◌∙◌, subst}
-use Rattle.plug_set.specs.declared.plugin_item.PluginItem.{PluginItem}
-use Rattle.plug_set.specs.Plugins.{table_file_of}
-use Rattle.table_file.specs.declared.fault.TableFileFault.{TableFileFault}
-use Rattle.table_file.specs.TableFiles.{sections_of_file}
+use Rattle.plugin_set.specs.declared.plugin_item.PluginItem.{PluginItem}
+use Rattle.plugin_set.specs.Plugins.{table_file_of}
+use Rattle.tabcomp_core.specs.declared.table_file_fault.TableFileFault.{TableFileFault}
+use Rattle.tabcomp_core.specs.TableFiles.{sections_of_file}
 use Rattle.std.specs.Option.{option_map}
 use Rattle.ts_outside.specs.Count.{HasCause}
 use Rattle.ts_outside.specs.declared.requests.Purpose.TheVariants.{File}

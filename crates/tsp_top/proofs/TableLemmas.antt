@@ -2,12 +2,12 @@
 use Rattle.std.proofs.Common.{◌≡◌, ℕ, zero, suc, ◌+◌, ◌<◌, List, [], ◌∷◌, ◌++◌, length, replicate, map, take, Bool, Option, None, Some, IfSome, IsErrAnd, MatchResult, Result, Ok, Err, Vec, Global, refl, ap, sym, ◌∙◌, subst, inl, inr, arith, append_assoc, append-nil}
 use Rattle.std.proofs.lemmas.List.{map-append, take_all, length-replicate}
 use Rattle.std.proofs.Math.Seq.{take-append-add}
-use Rattle.plug_set.specs.declared.plugin_item.PluginItem.{PluginItem}
-use Rattle.plug_set.specs.Plugins.{table_file_of}
-use Rattle.table_file.specs.declared.fault.TableFileFault.{TableFileFault}
-use Rattle.table_file.specs.declared.fault.TableFileFault.TheVariants.{TooMany}
-use Rattle.table_file.specs.TableFiles.{most_bytes}
-use Rattle.table_file.proofs.FaultLemmas.{too-long}
+use Rattle.plugin_set.specs.declared.plugin_item.PluginItem.{PluginItem}
+use Rattle.plugin_set.specs.Plugins.{table_file_of}
+use Rattle.tabcomp_core.specs.declared.table_file_fault.TableFileFault.{TableFileFault}
+use Rattle.tabcomp_core.specs.declared.table_file_fault.TableFileFault.TheVariants.{TooMany}
+use Rattle.tabcomp_core.specs.TableFiles.{most_bytes}
+use Rattle.tabcomp_core.proofs.FaultLemmas.{too-long}
 use Rattle.ts_outside.specs.declared.faults.FileFault.{FileFault}
 use Rattle.ts_outside.specs.declared.faults.FileFault.TheVariants as reading
 use Rattle.ts_outside.specs.FileFault.{MatchFile}

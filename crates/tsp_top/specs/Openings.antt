@@ -5,7 +5,7 @@ use Rattle.chain_args.specs.declared.input_conf.InputConf.{InputConf}
 use Rattle.chain_args.specs.declared.input_conf.InputConf.TheVariants as input
 use Rattle.chain_args.specs.declared.output_conf.OutputConf.{OutputConf}
 use Rattle.chain_args.specs.declared.output_conf.OutputConf.TheVariants as output
-use Rattle.form_source.specs.FormView.{form_view, ReadsThrough}
+use Rattle.packet_forms.specs.FormView.{form_view, ReadsThrough}
 use Rattle.stage_run.specs.declared.input_part.InputPart.{InputPart}
 use Rattle.stage_run.specs.declared.input_part.InputPart.TheVariants.{Stream, Nulls, Generated}
 use Rattle.stage_run.specs.declared.output_part.OutputPart.{OutputPart}

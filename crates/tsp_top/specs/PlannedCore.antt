@@ -9,7 +9,7 @@ use Rattle.tsp_top.specs.Sizes.{default_buffer, default_batch, IsSize, lesser_ba
 
 -- the numbers of a chain's core are the plan's
 pub record IsPlannedCore (plan : Plan) (numbers : CorePlan) : Type 0 where
-  pub lawful : core.IsLawfulPlan numbers
+  pub valid : core.IsValidPlan numbers
   pub plugins : numbers.plugins ≡ length plan.plugins
   pub buffer : IsSize plan.general.buffer_packets default_buffer numbers.buffer
   pub most : IsSize (lesser_batch plan.general.max_input_packets plan.general.max_flushed_packets)

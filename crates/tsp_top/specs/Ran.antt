@@ -21,7 +21,7 @@ use Rattle.stage_run.specs.Parts.{IsUnused}
 use Rattle.stage_run.specs.Seeing.{Seeing}
 use Rattle.chain_run.specs.Fresh.{AreFresh}
 use Rattle.chain_run.specs.RunOf.{RunOf, NeverBegan}
-use Rattle.plug_set.specs.Plugins.{steady_of}
+use Rattle.plugin_set.specs.Plugins.{preallocated_of}
 use Rattle.tsp_top.specs.ByPlugin.{by_plugin}
 use Rattle.tsp_top.specs.PlannedChain.{stuffing_of, named_rules}
 use Rattle.tsp_top.specs.PlannedTables.{AreTables, tables_asked}
@@ -41,21 +41,21 @@ closed_desk inner out_seen desk input output failed =
 -- a chain that is ready to run: its stuffing, its numbers and its plugins are the plan's, with these tables, and no
 -- plugin met a cell or has lines
 pub record IsReady {P : Type 0}
-    (rule : P → PluginRule) (stands : P → List Cell → ℕ → Type 0) (steady : P → Option ℕ)
+    (rule : P → PluginRule) (stands : P → List Cell → ℕ → Type 0) (preallocated : P → Option ℕ)
     (plan : Plan) (tables : List (List (List ℕ))) (stuffing : Stuffing) (numbers : CorePlan) (plugins : List (Heard P)) : Type 0 where
   pub stuffing_is : stage.stuffing_of stuffing ≡ stuffing_of plan.general
   pub every : 1 ≤ stuffing.every
   pub numbers_are : IsPlannedCore plan numbers
   pub rules : map (by_plugin rule) plugins ≡ rules_of (named_rules plan.plugins tables)
   -- each took its room for as many positions as the buffer has, where its settings say that it does
-  pub rooms : map (by_plugin steady) plugins ≡ map (λ item. steady_of item.conf numbers.buffer) plan.plugins
+  pub rooms : map (by_plugin preallocated) plugins ≡ map (λ item. preallocated_of item.conf numbers.buffer) plan.plugins
   pub fresh : AreFresh (HeardStands rule stands) plugins
 
 -- a call whose chain is ready and whose two ends were opened, the input first
 pub record IsOpened {S K P : Type 0} (see : Seeing S K P) (inner : S → SourceView)
     (plan : Plan) (tables : List (List (List ℕ))) (numbers : CorePlan) (old made : DeskView)
     (from : InputPart S) (stuffing : Stuffing) (plugins : List (Heard P)) (to : OutputPart K) : Type 0 where
-  pub ready : IsReady see.rule see.stands see.steady plan tables stuffing numbers plugins
+  pub ready : IsReady see.rule see.stands see.preallocated plan tables stuffing numbers plugins
   pub asked : made ≡ asked_output (asked_input old plan.input) plan.output
   pub input : OpensInput see.source inner old plan.input from
   pub unused : IsUnused from

@@ -1,9 +1,9 @@
 -- What a call of `tsp` does whose words have no plan. This project's own rule.
 use Rattle.std.specs.Prelude.{◌≡◌, ◌⊎◌, ℕ, List, [], ◌∷◌, ◌++◌, codes, Bool}
 use Rattle.std.specs.Fmt.{decimal}
-use Rattle.option_words.specs.declared.words_rule.WordsRule.{WordsRule}
+use Rattle.plugin_options.specs.declared.words_rule.WordsRule.{WordsRule}
 use Rattle.chain_args.specs.declared.words_fault.WordsFault.TheVariants.{At}
-use Rattle.option_words.specs.RuleText.{rule_text}
+use Rattle.plugin_options.specs.RuleText.{rule_text}
 use Rattle.ts_outside.specs.Desk.{DeskView}
 use Rattle.ts_outside.specs.Saying.{Says}
 use Rattle.tsp_top.specs.declared.status.Status.{Status}

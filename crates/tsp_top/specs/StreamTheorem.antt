@@ -2,7 +2,7 @@
 use Rattle.std.specs.Prelude.{◌≡◌, ◌⊎◌, ℕ, List, [], ◌∷◌, ◌++◌, take, drop, codes, true, false, IfSome}
 use Rattle.chain_model.specs.Prefix.{IsPrefix}
 use Rattle.chain_model.specs.StageLists.{end_list}
-use Rattle.chain_model.specs.Cut.{IsLawfulFault, IsPureClose}
+use Rattle.chain_model.specs.Cut.{IsValidFault, IsPureClose}
 use Rattle.chain_model.specs.PureRun.{Chain, chain_rules, chain_cut, written_to, reported_at}
 use Rattle.chain_model.specs.declared.cause.Cause.{Cause}
 use Rattle.chain_model.specs.declared.cause.Cause.TheVariants.{WriteFault}
@@ -24,7 +24,7 @@ use Rattle.tsp_top.specs.declared.status.Status.{Status}
 abbrev pub IsPureOrFault : Chain → ℕ → Cause → Type 0
 IsPureOrFault chain cut why =
     IsPureClose (chain_rules chain) chain.input chain.users cut why
-    ⊎ IsLawfulFault (chain_rules chain) chain.input chain.users cut why
+    ⊎ IsValidFault (chain_rules chain) chain.input chain.users cut why
 
 abbrev pub EndsRight : Chain → CallOutcome → Type 0
 EndsRight chain (ran cut why late) = IsPureOrFault chain cut why

@@ -1,6 +1,6 @@
 //! A call of a plan until its run: the tables are read, the chain is made ready, and its two ends are opened.
 ghost use Rattle.std.specs.Prelude.{◌≡◌, ℕ, List, map, MatchResult};
-ghost use Rattle.chain_args.specs.LawfulPlan.{IsLawfulPlan};
+ghost use Rattle.chain_args.specs.ValidPlan.{IsValidPlan};
 ghost use Rattle.stage_run.specs.Seeing.{seeing};
 ghost use Rattle.ts_outside.specs.Desk.{DeskView};
 ghost use Rattle.tsp_top.specs.Openings.{asked_input, OpensInput};
@@ -16,8 +16,8 @@ use crate::status::Status;
 use crate::tables::read_tables;
 use chain_args::Plan;
 use chain_run::Stages;
-use form_source::FormSource;
-use plug_set::AnyPlugin;
+use packet_forms::FormSource;
+use plugin_set::AnyPlugin;
 use plugin_trait::Plugin;
 use stage_run::InputPart;
 use std::alloc::{AllocError, Global};
@@ -32,11 +32,11 @@ pub(crate) fn begin_plan<D: Desk>(
     plan: &Plan,
     driver: Driver,
 ) -> Result<OpenedCall<FormSource<D::In>, D::Out, AnyPlugin>, Status>
-    requires { IsLawfulPlan plan.now }
+    requires { IsValidPlan plan.now }
     ensures { MatchResult result
         (λ call. OpensPlan
         (seeing ⟦<FormSource<D::In> as Source>⟧.seen D.Out.seen
-        ⟦<AnyPlugin as Plugin>⟧.rule ⟦<AnyPlugin as Plugin>⟧.stands_for ⟦<AnyPlugin as Plugin>⟧.steady)
+        ⟦<AnyPlugin as Plugin>⟧.rule ⟦<AnyPlugin as Plugin>⟧.stands_for ⟦<AnyPlugin as Plugin>⟧.preallocated)
         (λ source. D.In.seen source.source)
         plan.now call.core (D.seen desk.old) (D.seen desk.new)
         call.stages.input call.stages.stuffing call.stages.plugins.items call.stages.output)
@@ -56,11 +56,11 @@ fn begin_chain<D: Desk>(
     tables: Vec<Vec<Section>>,
     driver: Driver,
 ) -> Result<OpenedCall<FormSource<D::In>, D::Out, AnyPlugin>, Status>
-    requires { IsLawfulPlan plan.now }
+    requires { IsValidPlan plan.now }
     ensures { MatchResult result
         (λ call. IsOpened
         (seeing ⟦<FormSource<D::In> as Source>⟧.seen D.Out.seen
-        ⟦<AnyPlugin as Plugin>⟧.rule ⟦<AnyPlugin as Plugin>⟧.stands_for ⟦<AnyPlugin as Plugin>⟧.steady)
+        ⟦<AnyPlugin as Plugin>⟧.rule ⟦<AnyPlugin as Plugin>⟧.stands_for ⟦<AnyPlugin as Plugin>⟧.preallocated)
         (λ source. D.In.seen source.source)
         plan.now (map (λ table. table.items) tables.items) call.core (D.seen desk.old) (D.seen desk.new)
         call.stages.input call.stages.stuffing call.stages.plugins.items call.stages.output)
@@ -81,16 +81,16 @@ fn open_ends<P: Plugin + Drop, D: Desk>(
     ready: ReadyChain<P>,
 ) -> Result<OpenedCall<FormSource<D::In>, D::Out, P>, Status>
     ensures { (tables : List (List (List ℕ)))
-        → IsReady P.rule P.stands_for P.steady plan.now tables ready.stuffing ready.core ready.plugins.items
+        → IsReady P.rule P.stands_for P.preallocated plan.now tables ready.stuffing ready.core ready.plugins.items
         → MatchResult result
-        (λ call. IsOpened (seeing ⟦<FormSource<D::In> as Source>⟧.seen D.Out.seen P.rule P.stands_for P.steady)
+        (λ call. IsOpened (seeing ⟦<FormSource<D::In> as Source>⟧.seen D.Out.seen P.rule P.stands_for P.preallocated)
         (λ source. D.In.seen source.source)
         plan.now tables call.core (D.seen desk.old) (D.seen desk.new)
         call.stages.input call.stages.stuffing call.stages.plugins.items call.stages.output)
         (λ status. IsOverBefore plan.now tables (D.seen desk.old) (D.seen desk.new) status) }
 {
     match open_input(alloc, desk, &plan.input) {
-        Ok(input) => open_behind(desk, plan, ready, input),
+        Ok(input) => open_after(desk, plan, ready, input),
         Err(OpenFault::Failed) => {
             say(desk, "tsp: cannot open input\n");
             Err(Status::ReadFault)
@@ -100,7 +100,7 @@ fn open_ends<P: Plugin + Drop, D: Desk>(
 }
 
 /// Opens the output after an input that is open; where that fails, the input is closed.
-fn open_behind<P: Plugin + Drop, D: Desk>(
+fn open_after<P: Plugin + Drop, D: Desk>(
     desk: &mut D,
     plan: &Plan,
     ready: ReadyChain<P>,
@@ -109,11 +109,11 @@ fn open_behind<P: Plugin + Drop, D: Desk>(
     requires { ((old : DeskView) × OpensInput ⟦<FormSource<D::In> as Source>⟧.seen (λ source. D.In.seen source.source) old plan.now.input
         input) }
     ensures { (tables : List (List (List ℕ))) (old : DeskView)
-        → IsReady P.rule P.stands_for P.steady plan.now tables ready.stuffing ready.core ready.plugins.items
+        → IsReady P.rule P.stands_for P.preallocated plan.now tables ready.stuffing ready.core ready.plugins.items
         → D.seen desk.old ≡ asked_input old plan.now.input
         → OpensInput ⟦<FormSource<D::In> as Source>⟧.seen (λ source. D.In.seen source.source) old plan.now.input input
         → MatchResult result
-        (λ call. IsOpened (seeing ⟦<FormSource<D::In> as Source>⟧.seen D.Out.seen P.rule P.stands_for P.steady)
+        (λ call. IsOpened (seeing ⟦<FormSource<D::In> as Source>⟧.seen D.Out.seen P.rule P.stands_for P.preallocated)
         (λ source. D.In.seen source.source)
         plan.now tables call.core old (D.seen desk.new)
         call.stages.input call.stages.stuffing call.stages.plugins.items call.stages.output)

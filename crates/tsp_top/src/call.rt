@@ -1,7 +1,7 @@
 //! The top call: the words are read and the ends opened, the chain runs, and the run is reported.
 ghost use Rattle.std.specs.Prelude.{◌≡◌, map, IfSome, Some};
 ghost use Rattle.std.specs.String.{string_bytes};
-ghost use Rattle.chain_args.specs.LawfulPlan.{IsLawfulPlan};
+ghost use Rattle.chain_args.specs.ValidPlan.{IsValidPlan};
 ghost use Rattle.chain_args.specs.PlanOf.{plan_of};
 ghost use Rattle.tsp_top.specs.TspCall.{CallsPlan, CallsTsp};
 
@@ -174,7 +174,7 @@ fn run_plan_in_threads<R: Threads + Wait + Sync, D: Desk, G: Gate>(
     gate: &G,
     notes: &mut PluginNotes,
 ) -> Status
-    requires { IsLawfulPlan plan.now }
+    requires { IsValidPlan plan.now }
     ensures { CallsPlan plan.now (D.seen desk.old) (D.seen desk.new) result }
 {
     match begin_plan(alloc, desk, plan, Driver::InThreads) {
@@ -195,7 +195,7 @@ fn run_plan_in_one_thread<D: Desk, G: Gate>(
     gate: &G,
     notes: &mut PluginNotes,
 ) -> Status
-    requires { IsLawfulPlan plan.now }
+    requires { IsValidPlan plan.now }
     ensures { CallsPlan plan.now (D.seen desk.old) (D.seen desk.new) result }
 {
     match begin_plan(alloc, desk, plan, Driver::InOneThread) {

@@ -1,6 +1,6 @@
 //! What is noted of the plugins of a run, where that is asked.
 
-use plug_set::{AnyPlugin, ChangedOn, Changes, Idle, SeesTables};
+use plugin_set::{AnyPlugin, ChangedOn, Changes, Idle, SeesTables};
 use plugin_trait::Heard;
 use std::alloc::Global;
 

@@ -17,8 +17,8 @@ use crate::report::report_run;
 use crate::status::Status;
 use chain_args::Plan;
 use chain_run::RunEnd;
-use form_source::FormSource;
-use plug_set::SeesTables;
+use packet_forms::FormSource;
+use plugin_set::SeesTables;
 use plugin_trait::Plugin;
 use stage_run::{InputPart, OutputPart};
 use std::alloc::{AllocError, Global};
@@ -37,9 +37,9 @@ pub(crate) fn finish<P: Plugin + SeesTables + Drop, D: Desk>(
     ensures { (tables : List (List (List ℕ))) (stuffing : Stuffing) (numbers : CorePlan) (from : InputPart _)
         (plugins : List (Heard P)) (to : OutputPart D.Out)
         → map (by_plugin P.rule) end.plugins.items ≡ rules_of (named_rules plan.now.plugins tables)
-        → EndsRun (seeing ⟦<FormSource<D::In> as Source>⟧.seen D.Out.seen P.rule P.stands_for P.steady)
+        → EndsRun (seeing ⟦<FormSource<D::In> as Source>⟧.seen D.Out.seen P.rule P.stands_for P.preallocated)
         stuffing numbers from end.input plugins end.plugins.items to end.output end.closed
-        → RanOpened (seeing ⟦<FormSource<D::In> as Source>⟧.seen D.Out.seen P.rule P.stands_for P.steady)
+        → RanOpened (seeing ⟦<FormSource<D::In> as Source>⟧.seen D.Out.seen P.rule P.stands_for P.preallocated)
         (λ source. D.In.seen source.source)
         plan.now tables stuffing numbers (D.seen desk.old) (D.seen desk.new) from plugins to result }
 {

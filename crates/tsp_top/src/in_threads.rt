@@ -1,6 +1,6 @@
 //! The run in threads.
 ghost use Rattle.std.specs.Prelude.{◌≡◌, ◌≤◌, vec_len};
-ghost use Rattle.chain_core.specs.CoreNumbers.{IsLawfulPlan};
+ghost use Rattle.chain_core.specs.CoreNumbers.{IsValidPlan};
 ghost use Rattle.plugin_trait.specs.HeardStands.{HeardStands};
 ghost use Rattle.chain_run.specs.Fresh.{AreFresh};
 ghost use Rattle.stage_run.specs.Parts.{IsUnused};
@@ -9,12 +9,12 @@ ghost use Rattle.tsp_top.specs.Ran.{EndsRun};
 
 use chain_core::CorePlan;
 use chain_run::{RunEnd, Stages};
+use chain_threads::run_threads;
 use plugin_trait::Plugin;
 use std::alloc::Global;
 use std::marker::{Send, Sync};
 use std::sync::Wait;
 use std::thread::Threads;
-use thread_run::run_threads;
 use ts_outside::{Gate, Sink, Source};
 
 /// Runs a chain with a thread for each stage, and returns its parts.
@@ -36,10 +36,10 @@ where
     G: Gate,
     requires every { 1 ≤ stages.stuffing.every }
     requires unused { IsUnused stages.input }
-    requires lawful { IsLawfulPlan core.now }
+    requires valid { IsValidPlan core.now }
     requires plugins { core.now.plugins ≡ vec_len stages.plugins }
     requires fresh { AreFresh (HeardStands P.rule P.stands_for) stages.plugins.items }
-    ensures { EndsRun (seeing S.seen K.seen P.rule P.stands_for P.steady)
+    ensures { EndsRun (seeing S.seen K.seen P.rule P.stands_for P.preallocated)
         stages.stuffing core.now stages.input result.input
         stages.plugins.items result.plugins.items stages.output result.output result.closed }
 {

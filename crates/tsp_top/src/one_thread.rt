@@ -1,6 +1,6 @@
 //! The run in one thread.
 ghost use Rattle.std.specs.Prelude.{◌≡◌, ◌≤◌, vec_len};
-ghost use Rattle.chain_core.specs.CoreNumbers.{IsLawfulPlan};
+ghost use Rattle.chain_core.specs.CoreNumbers.{IsValidPlan};
 ghost use Rattle.plugin_trait.specs.HeardStands.{HeardStands};
 ghost use Rattle.chain_run.specs.Fresh.{AreFresh};
 ghost use Rattle.stage_run.specs.Parts.{IsUnused};
@@ -28,10 +28,10 @@ pub(crate) fn run_in_one_thread<S: Source, K: Sink, P: Plugin, G: Gate>(
 ) -> RunEnd<S, K, P>
     requires every { 1 ≤ stages.stuffing.every }
     requires unused { IsUnused stages.input }
-    requires lawful { IsLawfulPlan core.now }
+    requires valid { IsValidPlan core.now }
     requires plugins { core.now.plugins ≡ vec_len stages.plugins }
     requires fresh { AreFresh (HeardStands P.rule P.stands_for) stages.plugins.items }
-    ensures { EndsRun (seeing S.seen K.seen P.rule P.stands_for P.steady)
+    ensures { EndsRun (seeing S.seen K.seen P.rule P.stands_for P.preallocated)
         stages.stuffing core.now stages.input result.input
         stages.plugins.items result.plugins.items stages.output result.output result.closed }
 {

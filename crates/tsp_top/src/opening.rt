@@ -6,7 +6,7 @@ ghost use Rattle.tsp_top.specs.PlannedChain.{input_name, output_name};
 ghost use Rattle.tsp_top.specs.Openings.{asked_input, asked_output, asked_input_in_vain, asked_output_in_vain, OpensInput, OpensOutput, IsThrough, NamesInput, NamesOutput, input_closed_as, output_closed_as, WasOpened};
 
 use chain_args::{InputConf, OutputConf};
-use form_source::FormSource;
+use packet_forms::FormSource;
 use stage_run::{InputPart, OutputPart};
 use std::alloc::{AllocError, Global};
 use ts_outside::{Desk, Failed, OpenFault, Source};

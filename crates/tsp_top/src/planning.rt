@@ -1,7 +1,7 @@
 //! The stuffing and the numbers of the core that a plan gives a run.
 ghost use Rattle.std.specs.Prelude.{◌≡◌, ◌≤◌, ◌<◌, ◌+◌, ◌++◌, suc, length, All};
-ghost use Rattle.chain_args.specs.LawfulPlan.{IsLawfulGeneral};
-ghost use Rattle.chain_args.specs.LawfulPlan as args;
+ghost use Rattle.chain_args.specs.ValidPlan.{IsValidGeneral};
+ghost use Rattle.chain_args.specs.ValidPlan as args;
 ghost use Rattle.chain_core.specs.Stages.{stages_of};
 ghost use Rattle.stage_run.specs.InputStands as stage;
 ghost use Rattle.tsp_top.specs.PlannedChain.{stuffing_of, user_at, users_from, users_of};
@@ -11,12 +11,12 @@ ghost use Rattle.tsp_top.specs.PlannedCore.{IsPlannedCore};
 use crate::driver::Driver;
 use chain_args::{GeneralConf, Plan};
 use chain_core::{CorePlan, StageSet};
-use plug_set::PluginItem;
+use plugin_set::PluginItem;
 use stage_run::Stuffing;
 
 /// The stuffing of the general options.
 pub(crate) fn planned_stuffing(general: &GeneralConf) -> Stuffing
-    requires { IsLawfulGeneral general.now }
+    requires { IsValidGeneral general.now }
     ensures stuffing { stage.stuffing_of result ≡ stuffing_of general.now }
     ensures every { 1 ≤ result.every }
 {
@@ -34,7 +34,7 @@ const DEFAULT_BATCH: u64 = 10_000;
 
 /// How many packets the buffer has.
 fn planned_buffer(general: &GeneralConf, driver: Driver) -> u64
-    requires { IsLawfulGeneral general.now }
+    requires { IsValidGeneral general.now }
     ensures size { IsSize general.now.buffer_packets default_buffer result }
     ensures some { 1 ≤ result }
     ensures bound { result ≤ 1000000 }
@@ -47,7 +47,7 @@ fn planned_buffer(general: &GeneralConf, driver: Driver) -> u64
 
 /// How many packets a stage takes at a time: no more than either option allows.
 fn planned_batch(general: &GeneralConf, driver: Driver) -> u64
-    requires { IsLawfulGeneral general.now }
+    requires { IsValidGeneral general.now }
     ensures size { IsSize (lesser_batch general.now.max_input_packets general.now.max_flushed_packets)
         default_batch result }
     ensures some { 1 ≤ result }
@@ -101,7 +101,7 @@ fn planned_users(plan: &Plan) -> StageSet
 
 /// The numbers of the chain's core: each size is the one that the words give, or the driver's where they give none.
 pub(crate) fn planned_core(plan: &Plan, driver: Driver) -> CorePlan
-    requires { args.IsLawfulPlan plan.now }
+    requires { args.IsValidPlan plan.now }
     ensures { IsPlannedCore plan.now result }
 {
     CorePlan {

@@ -2,9 +2,9 @@
 ghost use Rattle.std.specs.Prelude.{◌≡◌, ◌++◌, ◌∷◌, [], map, IfOk, IsOkAnd, OnOk};
 ghost use Rattle.std.specs.List.{All};
 ghost use Rattle.plugin_trait.specs.HeardStands.{HeardStands};
-ghost use Rattle.plug_set.specs.Items.{IsLawfulItem};
-ghost use Rattle.plug_set.specs.Plugins.{steady_of};
-ghost use Rattle.chain_args.specs.LawfulPlan.{IsLawfulPlan};
+ghost use Rattle.plugin_set.specs.Items.{IsValidItem};
+ghost use Rattle.plugin_set.specs.Plugins.{preallocated_of};
+ghost use Rattle.chain_args.specs.ValidPlan.{IsValidPlan};
 ghost use Rattle.chain_model.specs.Reports.{rules_of};
 ghost use Rattle.chain_run.specs.Fresh.{AreFresh};
 ghost use Rattle.tsp_top.specs.ByPlugin.{by_plugin};
@@ -15,7 +15,7 @@ use crate::driver::Driver;
 use crate::planning::{planned_core, planned_stuffing};
 use chain_args::Plan;
 use chain_core::CorePlan;
-use plug_set::{AnyPlugin, PluginItem};
+use plugin_set::{AnyPlugin, PluginItem};
 use plugin_trait::{Heard, Plugin};
 use stage_run::Stuffing;
 use std::alloc::{AllocError, Global};
@@ -73,16 +73,16 @@ fn add_plugins(
     tables: &mut Vec<Vec<Section>>,
     buffer: usize,
 ) -> Result<(), AllocError>
-    requires lawful { All IsLawfulItem items.now }
+    requires valid { All IsValidItem items.now }
     requires before { AreFresh (HeardStands ⟦<AnyPlugin as Plugin>⟧.rule ⟦<AnyPlugin as Plugin>⟧.stands_for) plugins.old.items }
     ensures rules { OnOk result
         (map (by_plugin ⟦<AnyPlugin as Plugin>⟧.rule) plugins.new.items
         ≡ map (by_plugin ⟦<AnyPlugin as Plugin>⟧.rule) plugins.old.items ++ rules_of
         (named_rules items.now (map (λ table. table.items) tables.old.items))) }
     ensures rooms { OnOk result
-        (map (by_plugin ⟦<AnyPlugin as Plugin>⟧.steady) plugins.new.items
-        ≡ map (by_plugin ⟦<AnyPlugin as Plugin>⟧.steady) plugins.old.items
-        ++ map (λ item. steady_of item.conf buffer) items.now) }
+        (map (by_plugin ⟦<AnyPlugin as Plugin>⟧.preallocated) plugins.new.items
+        ≡ map (by_plugin ⟦<AnyPlugin as Plugin>⟧.preallocated) plugins.old.items
+        ++ map (λ item. preallocated_of item.conf buffer) items.now) }
     ensures fresh { OnOk result (AreFresh (HeardStands ⟦<AnyPlugin as Plugin>⟧.rule ⟦<AnyPlugin as Plugin>⟧.stands_for) plugins.new.items) }
 {
     let Some((item, rest)) = items.split_first() else {
@@ -101,9 +101,9 @@ pub(crate) fn ready_chain(
     tables: Vec<Vec<Section>>,
     driver: Driver,
 ) -> Result<ReadyChain<AnyPlugin>, AllocError>
-    requires { IsLawfulPlan plan.now }
+    requires { IsValidPlan plan.now }
     ensures { IfOk result (λ ready. IsReady
-        ⟦<AnyPlugin as Plugin>⟧.rule ⟦<AnyPlugin as Plugin>⟧.stands_for ⟦<AnyPlugin as Plugin>⟧.steady
+        ⟦<AnyPlugin as Plugin>⟧.rule ⟦<AnyPlugin as Plugin>⟧.stands_for ⟦<AnyPlugin as Plugin>⟧.preallocated
         plan.now (map (λ table. table.items) tables.items) ready.stuffing ready.core ready.plugins.items) }
 {
     let mut tables = tables;

@@ -13,7 +13,7 @@ use crate::end_line::end_line_text;
 use crate::reporting::push_reports;
 use crate::status::{Status, status_if_late, status_of_cause};
 use chain_core::Closed;
-use plug_set::PluginItem;
+use plugin_set::PluginItem;
 use plugin_trait::{Heard, Plugin};
 use std::alloc::{AllocError, Global};
 use ts_outside::{Desk, say};

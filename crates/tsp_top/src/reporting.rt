@@ -11,7 +11,7 @@ ghost use Rattle.tsp_top.specs.ByPlugin.{by_plugin};
 ghost use Rattle.tsp_top.specs.PlannedChain.{named_rules};
 ghost use Rattle.tsp_top.specs.Reported.{ReachesCut};
 
-use plug_set::PluginItem;
+use plugin_set::PluginItem;
 use plugin_trait::{Heard, Line, Plugin, report};
 use std::alloc::AllocError;
 

@@ -6,7 +6,7 @@ ghost use Rattle.tsp_top.specs.ExitNumber.{exit_number};
 
 use chain_args::WordsFault;
 use chain_model::{Cause, InputEnd, Reason};
-use table_file::TableFileFault;
+use tabcomp_core::TableFileFault;
 
 /// How a call of `tsp` ended.
 #[derive(Debug, Drop)]

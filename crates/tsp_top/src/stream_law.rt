@@ -9,7 +9,7 @@ ghost use Rattle.tsp_top.specs.PlannedChain.{chain_of};
 ghost use Rattle.tsp_top.specs.PlannedTables.{AreTables};
 ghost use Rattle.tsp_top.specs.TspCall.{CallsTsp};
 ghost use Rattle.tsp_top.specs.Headline.{TellsInput, TellsTables, IsPureOrWants, IsPureOrEnds, EndsWell, SameButSizes};
-ghost use Rattle.tsp_top.specs.MemoryFirst.{AreSteady};
+ghost use Rattle.tsp_top.specs.MemoryFirst.{ArePreallocated};
 ghost use Rattle.tsp_top.specs.WantsMemory.{WantsMemoryFirst};
 ghost use Rattle.tsp_top.specs.declared.status.Status.{Status};
 ghost use Rattle.tsp_top.specs.declared.status.Status.TheVariants.{Done, NoMemory};
@@ -53,6 +53,6 @@ pub fn sizes_change_nothing()
 /// Where all plugins take their room before the run, running out of memory comes before it, or after all that was written.
 pub fn memory_first()
     ensures { (words : List (List ℕ)) (plan : Plan) (old new : DeskView) (status : Status)
-        → plan_of words ≡ Some plan → AreSteady plan.plugins
+        → plan_of words ≡ Some plan → ArePreallocated plan.plugins
         → CallsTsp words old new status → status ≡ NoMemory → WantsMemoryFirst plan old new }
 {}

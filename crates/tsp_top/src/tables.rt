@@ -2,18 +2,18 @@
 ghost use Rattle.std.specs.Prelude.{◌≡◌, ◌+◌, ◌<◌, ◌^◌, ◌++◌, [], ◌∷◌, List, Ok, Some, length, map, IfOk, IfSome, MatchResult};
 ghost use Rattle.std.specs.Fmt.{decimal};
 ghost use Rattle.std.specs.String.{string_bytes};
-ghost use Rattle.chain_args.specs.LawfulPlan.{IsLawfulPlan};
-ghost use Rattle.plug_set.specs.Plugins.{table_file_of};
-ghost use Rattle.plug_set.specs.declared.plugin_item.PluginItem.{PluginItem as GivenItem};
+ghost use Rattle.chain_args.specs.ValidPlan.{IsValidPlan};
+ghost use Rattle.plugin_set.specs.Plugins.{table_file_of};
+ghost use Rattle.plugin_set.specs.declared.plugin_item.PluginItem.{PluginItem as GivenItem};
 ghost use Rattle.ts_outside.specs.Desk.{DeskView, content};
 ghost use Rattle.tsp_top.specs.PlannedTables.{HasSections, IsTable, ReadsTables, files_asked, name_if_any};
 ghost use Rattle.tsp_top.specs.TableEnds.{IsOverAtPlugin, IsOverAtTable, IsOverAtTables, RefusesTable};
 
 use crate::status::Status;
 use chain_args::Plan;
-use plug_set::PluginItem;
+use plugin_set::PluginItem;
 use std::alloc::{AllocError, Global};
-use table_file::{MOST_BYTES, NoTables, TableFileFault, table_sections};
+use tabcomp_core::{MOST_BYTES, NoTables, TableFileFault, table_sections};
 use ts_outside::{Desk, FileFault, say};
 use ts_section::Section;
 
@@ -108,7 +108,7 @@ fn read_if_named<D: Desk>(
 }
 
 /// Appends the tables of these plugins, the first of which has this number, to those of the plugins before them.
-fn read_behind<D: Desk>(
+fn read_after<D: Desk>(
     alloc: Global,
     desk: &mut D,
     tables: &mut Vec<Vec<Section>>,
@@ -129,7 +129,7 @@ fn read_behind<D: Desk>(
     let Ok(()) = tables.push(table) else {
         return Err(Status::NoMemory);
     };
-    read_behind(alloc, desk, tables, rest, plugin + 1)
+    read_after(alloc, desk, tables, rest, plugin + 1)
 }
 
 /// Reads the files of all plugins of a plan, and returns the tables of each.
@@ -138,13 +138,13 @@ pub(crate) fn read_tables<D: Desk>(
     desk: &mut D,
     plan: &Plan,
 ) -> Result<Vec<Vec<Section>>, Status>
-    requires { IsLawfulPlan plan.now }
+    requires { IsValidPlan plan.now }
     ensures { MatchResult result
         (λ tables. ReadsTables plan.now.plugins (map (λ table. table.items) tables.items)
         (D.seen desk.old) (D.seen desk.new))
         (λ status. IsOverAtTables plan.now.plugins (D.seen desk.old) (D.seen desk.new) status) }
 {
     let mut tables = Vec::new(alloc);
-    read_behind(alloc, desk, &mut tables, plan.plugins.as_slice(), 1)?;
+    read_after(alloc, desk, &mut tables, plan.plugins.as_slice(), 1)?;
     Ok(tables)
 }

@@ -47,7 +47,7 @@ module _ (key : Key) (value : State) (history : List Visit) (hand : Row) (stage 
   low = let a = may.hand_is.at in let c = may.hand_is.cells in let t = (hold stage).taken_below in omega (arith, a, c, t)
 
   pub lap_low : hand.at + B < 2 ^ 63
-  lap_low = let a = may.hand_is.at in let c = may.hand_is.cells in let t = (hold stage).taken_below in let b = may.lawful.buffer in omega (arith, a, c, t, b)
+  lap_low = let a = may.hand_is.at in let c = may.hand_is.cells in let t = (hold stage).taken_below in let b = may.valid.buffer in omega (arith, a, c, t, b)
 
   -- the link before the stage, or the free cells
   pub own_link : (k : ℕ) → k ≤ n1 → ((link value k).at ≡ T k) × ((link value k).land ≡ land_of key)
@@ -75,8 +75,8 @@ module _ (key : Key) (value : State) (history : List Visit) (hand : Row) (stage 
   abbrev lapped : ℕ → ℕ
   lapped k = if k == 0 then hand.at + B else hand.at
 
-  pub give_behind : lapped next ≡ (link value next).at + length (link value next).cells
-  give_behind = dite (ℕ_discrete stage n1)
+  pub give_after : lapped next ≡ (link value next).at + length (link value next).cells
+  give_after = dite (ℕ_discrete stage n1)
       (λ out. let z = next_out out in let a = may.hand_is.at in let f = may.stands.free_at in let m = may.stands.free_many in let g : G stage ≡ G n1 = ap G out in
       let sum : hand.at + B ≡ (link value 0).at + length (link value 0).cells = omega (arith, a, f, m, g) in ap lapped z ∙ sum ∙ (λ i. (link value (sym z i)).at + length (link value (sym z i)).cells))
       (λ inner. let z = next_in inner in let a = may.hand_is.at in let i0 = is_stage in let lt : stage ≤ key.plan.plugins = omega (arith, i0, inner) in let w = waits stage lt in let o = (own_link (suc stage) (omega (arith, lt))).0 in
@@ -96,7 +96,7 @@ module _ (key : Key) (value : State) (history : List Visit) (hand : Row) (stage 
 
   -- what lies on the link before the stage
   pub own_low : (k : ℕ) → k ≤ n1 → (link value k).at + length (link value k).cells < 2 ^ 63
-  own_low zero lt = let f = may.stands.free_at in let m = may.stands.free_many in let g = (hold n1).given_within in let t = (hold n1).taken_below in let b = may.lawful.buffer in omega (arith, f, m, g, t, b)
+  own_low zero lt = let f = may.stands.free_at in let m = may.stands.free_many in let g = (hold n1).given_within in let t = (hold n1).taken_below in let b = may.valid.buffer in omega (arith, f, m, g, t, b)
   own_low (suc j) lt = let w = waits j (omega (arith, lt)) in let o = (own_link (suc j) lt).0 in let g = (hold j).given_within in let t = (hold j).taken_below in omega (arith, w, o, g, t)
 
   module _ (s2 : ChainState) (changes : ChangesOneStage key.plan s s2 (giving hand stage done word)) (hold2 : (k : ℕ) → NewsHold key.plan s2 k) where
@@ -117,8 +117,8 @@ module _ (key : Key) (value : State) (history : List Visit) (hand : Row) (stage 
     given2 : length (s2.stages stage).given ≡ G stage + done
     given2 = ap length changes.given ∙ length-append (s.stages stage).given (take done hand.cells) ∙ ap (λ k. G stage + k) (length-take-le done hand.cells may.done_within)
 
-    pub with_behind : T stage ≡ (hand.at + done) + (length hand.cells - done)
-    with_behind = let a = may.hand_is.at in let c = may.hand_is.cells in let d = may.done_within in omega (arith, a, c, d)
+    pub with_after : T stage ≡ (hand.at + done) + (length hand.cells - done)
+    with_after = let a = may.hand_is.at in let c = may.hand_is.cells in let d = may.done_within in omega (arith, a, c, d)
 
     pub with_fits : (length hand.cells - done) + more ≤ B
     with_fits = let a = (hold2 stage).taken_ahead in let b = (hold2 stage).written_within is_stage in let g = given2 in let c = may.hand_is.cells in let d = may.done_within in let l = no_less in omega (arith, a, b, g, c, d, l)

@@ -10,7 +10,7 @@ use Rattle.chain_core.specs.declared.progress.Progress.{Progress}
 use Rattle.chain_core.specs.Numbers.{UsersArePlugins}
 use Rattle.chain_core.specs.Machine.{Visit, visited, ChainState, progress_of_stages}
 use Rattle.chain_core.specs.ChainRun.{ChainRun, state_after, AllEnded}
-use Rattle.chain_core.specs.CoreNumbers.{IsLawfulPlan, progress_of_core}
+use Rattle.chain_core.specs.CoreNumbers.{IsValidPlan, progress_of_core}
 use Rattle.chain_core.specs.Close.{closed_of}
 use Rattle.chain_core.specs.Laws.{ChangesOneStage, LeavesOthers, NewsHold}
 use Rattle.window_ring.specs.Hands.{Row, row_of, no_row}
@@ -47,12 +47,12 @@ module _ (seats rest : List StageSeat) (last : StageSeat) (is : seats ≡ rest +
   pub at_last : (k : ℕ) (d : StageSeat) → length rest ≡ k → slice_index_or seats k d ≡ last
   at_last k d e = ap (λ l. slice_index_or l k d) is ∙ get_or_push rest last d k e
 
-module _ (key : Key) (table : TableId) (lawful : IsLawfulPlan key.plan)
+module _ (key : Key) (table : TableId) (valid : IsValidPlan key.plan)
     (changes : (plan : CorePlan) (state : ChainState) (visit : Visit) → ChangesOneStage plan state (visited plan state visit) visit)
     (leaves : (plan : CorePlan) (visits : List Visit) (visit : Visit) → UsersArePlugins plan → ChainRun plan (visit ∷ visits) → LeavesOthers plan (state_after plan visits) (state_after plan (visit ∷ visits)) visit)
     (hold : (plan : CorePlan) (visits : List Visit) (k : ℕ) → UsersArePlugins plan → ChainRun plan visits → NewsHold plan (state_after plan visits) k) where
   ended_stays : (k : ℕ) (seen history : List Visit) → Since k seen history → HasEnded key k seen → HasEnded key k history
-  ended_stays k seen history s e = subst (λ l. HasEnded key k l) (sym s.2) (subst (λ z. IsSome z.ended) (sym (stage_stays key.plan lawful.users changes leaves k s.0 seen s.1)) e)
+  ended_stays k seen history s e = subst (λ l. HasEnded key k l) (sym s.2) (subst (λ z. IsSome z.ended) (sym (stage_stays key.plan valid.users changes leaves k s.0 seen s.1)) e)
 
   pub all_ended : (held : List Holding) (value : State) → Opened key held value → Each (λ (h : Holding). HasEnded key h.stage h.seen) held → CoversAll key held → AllEnded value.core.plan (progress_of_core value.core)
   all_ended held value o done all k le =
@@ -73,10 +73,10 @@ module _ (key : Key) (table : TableId) (lawful : IsLawfulPlan key.plan)
     T k = (s.stages k).taken
 
     linked : (j : ℕ) → T (suc j) ≤ G j
-    linked j = (hold key.plan history (suc j) lawful.users run).taken_within j refl
+    linked j = (hold key.plan history (suc j) valid.users run).taken_within j refl
 
     within : (k : ℕ) → G k ≤ T k
-    within k = (hold key.plan history k lawful.users run).given_within
+    within k = (hold key.plan history k valid.users run).given_within
 
     falls : (k j : ℕ) → j ≤ k → G k ≤ G j
     falls zero j le = let e : j ≡ 0 = omega (arith, le) in subst (λ i. G 0 ≤ G i) (sym e) (omega arith)
@@ -104,7 +104,7 @@ module _ (key : Key) (table : TableId) (lawful : IsLawfulPlan key.plan)
     module _ (j : ℕ) (stage : j ≤ n1) (left : Left) (p : Parted key s j left) (seat : StageSeat) (done : IsDone key table j seat) (since : Since j (seen_of seat) history) where
       pub hand_is : IsHandOf s j (land_of key) seat.hand
       hand_is = subst (λ l. IsHandOf (state_after key.plan l) j (land_of key) seat.hand) (sym since.2)
-          (hand_stays key.plan lawful.users changes leaves j (land_of key) seat.hand since.0 (seen_of seat) since.1 (subst (λ k. IsHandOf (state_after key.plan (seen_of seat)) k (land_of key) seat.hand) done.stage done.seat_is.hand_is))
+          (hand_stays key.plan valid.users changes leaves j (land_of key) seat.hand since.0 (seen_of seat) since.1 (subst (λ k. IsHandOf (state_after key.plan (seen_of seat)) k (land_of key) seat.hand) done.stage done.seat_is.hand_is))
 
       pub behind : left.all.at ≡ seat.hand.at + length seat.hand.cells
       behind = let a = p.at in let b = hand_is.at in let c = hand_is.cells in omega (arith, a, b, c)
@@ -130,8 +130,8 @@ module _ (key : Key) (table : TableId) (lawful : IsLawfulPlan key.plan)
         link_is : Linked key s j row
         link_is = subst (λ r. Linked key s j r) (ap (λ l. slice_index_or l 0 no_row) is) (p.link 0 j (omega arith) (let a = ap length is in omega (arith, a)))
 
-        pub link_behind : both.at ≡ row.at + length row.cells
-        link_behind = let a = hand_is.at in let b = link_is.0 in let c = link_is.2 in omega (arith, a, b, c)
+        pub link_after : both.at ≡ row.at + length row.cells
+        link_after = let a = hand_is.at in let b = link_is.0 in let c = link_is.2 in omega (arith, a, b, c)
 
         pub link_same : both.land ≡ row.land
         link_same = hand_is.same ∙ sym link_is.1
@@ -160,7 +160,7 @@ module _ (key : Key) (table : TableId) (lawful : IsLawfulPlan key.plan)
 
     pub covering : Each (λ (h : Holding). HasEnded key h.stage h.seen) held → ((k : ℕ) → k ≤ suc key.plan.plugins → (k < length seats) ⊎ Has k held) → Covering key table (holding last.stage (seen_of last) ∷ held) rest
     covering done covers = record {
-      lawful = lawful;
+      valid = valid;
       few = few;
       seats_are = λ k d lt. subst (λ x. IsDone key table k x) (at_rest_of seats rest last is k d lt) (seats_are k d (let n = longer seats rest last is in omega (arith, lt, n)));
       done = (subst (λ k. HasEnded key k (seen_of last)) (sym last_done.stage) last_done.ended, done);
@@ -185,29 +185,29 @@ pub record Laws : Type 0 where
 -- the last seat was taken off the row, and went into the root
 pub record Taken (key : Key) (table : TableId) (made : ℕ) (held : List Holding) (seats rest : List StageSeat) (last : StageSeat) (root : Me State View) : Type 0 where
   pub laws : Laws
-  pub lawful : IsLawfulPlan key.plan
+  pub valid : IsValidPlan key.plan
   pub is : seats ≡ rest ++ last ∷ []
   pub few : length rest ≤ suc key.plan.plugins
   pub seats_are : (k : ℕ) (d : StageSeat) → k < length seats → IsDone key table k (slice_index_or seats k d)
   pub root_is : root ≡ (root_view key made (holding last.stage (seen_of last) ∷ held), [])
   pub more : Covering key table (holding last.stage (seen_of last) ∷ held) rest
 
-pub taken : {key : Key} {table : TableId} {made : ℕ} {held : List Holding} {seats rest : List StageSeat} {last : StageSeat} {root : Me State View} {popped : Option StageSeat} → Laws → IsLawfulPlan key.plan
+pub taken : {key : Key} {table : TableId} {made : ℕ} {held : List Holding} {seats rest : List StageSeat} {last : StageSeat} {root : Me State View} {popped : Option StageSeat} → Laws → IsValidPlan key.plan
     → ((k : ℕ) (d : StageSeat) → k < length seats → IsDone key table k (slice_index_or seats k d)) → length seats ≤ suc (suc key.plan.plugins)
     → Each (λ (h : Holding). HasEnded key h.stage h.seen) held → ((k : ℕ) → k ≤ suc key.plan.plugins → (k < length seats) ⊎ Has k held)
     → seats ≡ rest ++ option_to_list popped → popped ≡ Some last
     → ((k : ℕ) (seen : List Visit) (busy : List ℕ) → last.seat.me ≡ (at_rest key k seen busy, []) → root ≡ (root_view key made (holding k seen ∷ held), [])) → Taken key table made held seats rest last root
-taken {key} {table} {made} {held} {seats} {rest} {last} {root} {popped} laws lawful seats_are many done covers items some joined =
+taken {key} {table} {made} {held} {seats} {rest} {last} {root} {popped} laws valid seats_are many done covers items some joined =
     let is : seats ≡ rest ++ last ∷ [] = items ∙ ap (λ r. rest ++ option_to_list r) some in
     let few : length rest ≤ suc key.plan.plugins = let n = longer seats rest last is in omega (arith, n, many) in
     record {
       laws = laws;
-      lawful = lawful;
+      valid = valid;
       is = is;
       few = few;
       seats_are = seats_are;
-      root_is = joined last.stage (seen_of last) (busy_of last) (last_done key table lawful laws.changes laws.leaves laws.hold held seats rest last is few seats_are).seat_is.rests;
-      more = covering key table lawful laws.changes laws.leaves laws.hold held seats rest last is few seats_are done covers;
+      root_is = joined last.stage (seen_of last) (busy_of last) (last_done key table valid laws.changes laws.leaves laws.hold held seats rest last is few seats_are).seat_is.rests;
+      more = covering key table valid laws.changes laws.leaves laws.hold held seats rest last is few seats_are done covers;
     }
 
 -- the hands of the others and the cells after them are together: the last hand comes before them
@@ -217,30 +217,30 @@ module _ {key : Key} {table : TableId} {made : ℕ} {held : List Holding} {seats
   o = t.laws
 
   done : IsDone key table (length rest) last
-  done = last_done key table t.lawful o.changes o.leaves o.hold held seats rest last t.is t.few t.seats_are
+  done = last_done key table t.valid o.changes o.leaves o.hold held seats rest last t.is t.few t.seats_are
 
   since : Since (length rest) (seen_of last) g.history
-  since = last_since key table t.lawful o.changes o.leaves o.hold held seats rest last t.is t.few t.seats_are left g
+  since = last_since key table t.valid o.changes o.leaves o.hold held seats rest last t.is t.few t.seats_are left g
 
-  pub last_behind : left.all.at ≡ last.hand.at + length last.hand.cells
-  last_behind = behind key table t.lawful o.changes o.leaves o.hold g.history g.run (length rest) t.few left g.parted last done since
+  pub last_after : left.all.at ≡ last.hand.at + length last.hand.cells
+  last_after = behind key table t.valid o.changes o.leaves o.hold g.history g.run (length rest) t.few left g.parted last done since
 
   pub last_same : left.all.land ≡ last.hand.land
-  last_same = same key table t.lawful o.changes o.leaves o.hold g.history g.run (length rest) t.few left g.parted last done since
+  last_same = same key table t.valid o.changes o.leaves o.hold g.history g.run (length rest) t.few left g.parted last done since
 
   pub last_fits : length last.hand.cells + length left.all.cells ≤ last.hand.land.count
-  last_fits = fits key table t.lawful o.changes o.leaves o.hold g.history g.run (length rest) t.few left g.parted last done since
+  last_fits = fits key table t.valid o.changes o.leaves o.hold g.history g.run (length rest) t.few left g.parted last done since
 
   abbrev with_last : Row
   with_last = row_of last.hand.at last.hand.land (last.hand.cells ++ left.all.cells)
 
   pub all_since : (k : ℕ) (d : StageSeat) → k < length seats → Since k (seen_of (slice_index_or seats k d)) g.history
-  all_since = since_all key table t.lawful o.changes o.leaves o.hold held seats rest last t.is t.few t.seats_are left g
+  all_since = since_all key table t.valid o.changes o.leaves o.hold held seats rest last t.is t.few t.seats_are left g
 
   -- with the last stage's hand it is the whole block
   pub all_cells : length seats ≡ suc (suc key.plan.plugins) → (both : Row) → both ≡ with_last → length both.cells ≡ both.land.count
   all_cells all both is = subst (λ (r : Row). length r.cells ≡ r.land.count) (sym is)
-      (whole key table t.lawful o.changes o.leaves o.hold g.history g.run (length rest) t.few left g.parted last done since (let n = longer seats rest last t.is in omega (arith, n, all)))
+      (whole key table t.valid o.changes o.leaves o.hold g.history g.run (length rest) t.few left g.parted last done since (let n = longer seats rest last t.is in omega (arith, n, all)))
 
   pub no_links : length seats ≡ suc (suc key.plan.plugins) → length left.links.items ≡ 0
   no_links all = let n = longer seats rest last t.is in let m = g.parted.links in omega (arith, n, all, m)
@@ -257,15 +257,15 @@ module _ {key : Key} {table : TableId} {made : ℕ} {held : List Holding} {seats
       linked_is : left.links.items ≡ row ∷ rows
       linked_is = head_off left.links.items rows row some_link row_is rows_are
 
-      pub before_behind : both.at ≡ row.at + length row.cells
-      before_behind = ap (λ (r : Row). r.at) both_is ∙ link_behind key table t.lawful o.changes o.leaves o.hold g.history g.run (length rest) t.few left g.parted last done since inner row rows linked_is
+      pub before_after : both.at ≡ row.at + length row.cells
+      before_after = ap (λ (r : Row). r.at) both_is ∙ link_after key table t.valid o.changes o.leaves o.hold g.history g.run (length rest) t.few left g.parted last done since inner row rows linked_is
 
       pub before_same : both.land ≡ row.land
-      before_same = ap (λ (r : Row). r.land) both_is ∙ link_same key table t.lawful o.changes o.leaves o.hold g.history g.run (length rest) t.few left g.parted last done since inner row rows linked_is
+      before_same = ap (λ (r : Row). r.land) both_is ∙ link_same key table t.valid o.changes o.leaves o.hold g.history g.run (length rest) t.few left g.parted last done since inner row rows linked_is
 
       pub before_fits : length row.cells + length both.cells ≤ row.land.count
       before_fits = subst (λ (r : Row). length row.cells + length r.cells ≤ row.land.count) (sym both_is)
-          (link_fits key table t.lawful o.changes o.leaves o.hold g.history g.run (length rest) t.few left g.parted last done since inner row rows linked_is)
+          (link_fits key table t.valid o.changes o.leaves o.hold g.history g.run (length rest) t.few left g.parted last done since inner row rows linked_is)
 
       pub gathered_more : (new : Left) → new.all ≡ row_of row.at row.land (row.cells ++ both.cells) → new.links.items ≡ rows → new.closed ≡ left.closed → Gathered key held seats new
       gathered_more new all links closed = record {
@@ -274,6 +274,6 @@ module _ {key : Key} {table : TableId} {made : ℕ} {held : List Holding} {seats
         held_since = g.held_since.1;
         seats_since = all_since;
         parted = subst (λ j. Parted key (state_after key.plan g.history) j new) (sym (longer seats rest last t.is))
-            (parted_more key table t.lawful o.changes o.leaves o.hold g.history g.run (length rest) t.few left g.parted last done since inner row rows linked_is new
+            (parted_more key table t.valid o.changes o.leaves o.hold g.history g.run (length rest) t.few left g.parted last done since inner row rows linked_is new
             (all ∙ ap (λ (r : Row). row_of row.at row.land (row.cells ++ r.cells)) both_is) links closed);
       }

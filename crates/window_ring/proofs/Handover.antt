@@ -47,16 +47,16 @@ module _ {key : Key} {value : State} {history : List Visit} {hand : Row} {stage 
   pub promised : ((plan : CorePlan) (state : ChainState) (visit : Visit) → ChangesOneStage plan state (visited plan state visit) visit)
       → ((plan : CorePlan) (visits : List Visit) (k : ℕ) → UsersArePlugins plan → ChainRun plan visits → NewsHold plan (state_after plan visits) k) → Promised
   promised changes hold = record {
-    hold = λ k. hold key.plan history k may.lawful.users may.run;
+    hold = λ k. hold key.plan history k may.valid.users may.run;
     changes = changes key.plan s v;
-    hold2 = held key.plan history v (λ k. hold key.plan (v ∷ history) k may.lawful.users (may.run, may.allowed));
+    hold2 = held key.plan history v (λ k. hold key.plan (v ∷ history) k may.valid.users (may.run, may.allowed));
   }
 
   -- the hand is cut, and this is the link after the stage
-  pub record Cut (front rest : Row) (behind_it : ℕ) : Type 0 where
+  pub record Cut (front rest : Row) (after_it : ℕ) : Type 0 where
     pub front_is : front ≡ row_of hand.at hand.land (take done hand.cells)
     pub rest_is : rest ≡ row_of (hand.at + done) hand.land (drop done hand.cells)
-    pub next_is : behind_it ≡ next
+    pub next_is : after_it ≡ next
 
   pub cut_of : (whole front rest : Row) (links_long n : ℕ) → whole ≡ hand → front ≡ row_of whole.at whole.land (take done whole.cells) → rest ≡ row_of (whole.at + done) whole.land (drop done whole.cells)
       → links_long ≡ value.links.len → n ≡ (if stage == links_long - 1 then 0 else suc stage) → Cut front rest n
@@ -73,12 +73,12 @@ module _ {key : Key} {value : State} {history : List Visit} {hand : Row} {stage 
 
   module _ (p : Promised) {front rest : Row} {n : ℕ} (cut : Cut front rest n) where
     -- the given cells go after those of the next link
-    pub goes_behind : (given : Row) → given ≡ row_of (if n == 0 then front.at + front.land.count else front.at) front.land front.cells
+    pub goes_after : (given : Row) → given ≡ row_of (if n == 0 then front.at + front.land.count else front.at) front.land front.cells
         → given.at ≡ (on_link links n).at + length (on_link links n).cells
-    goes_behind given is =
+    goes_after given is =
         ap (λ r. r.at) is ∙ (λ i. if n == 0 then (cut.front_is i).at + (cut.front_is i).land.count else (cut.front_is i).at)
         ∙ (λ i. if cut.next_is i == 0 then hand.at + (may.hand_is.same i).count else hand.at)
-        ∙ fit.give_behind key value history hand stage done word may p.hold ∙ (λ i. (on_link links (sym cut.next_is i)).at + length (on_link links (sym cut.next_is i)).cells)
+        ∙ fit.give_after key value history hand stage done word may p.hold ∙ (λ i. (on_link links (sym cut.next_is i)).at + length (on_link links (sym cut.next_is i)).cells)
 
     pub goes_in : (given : Row) → given ≡ row_of (if n == 0 then front.at + front.land.count else front.at) front.land front.cells
         → length (on_link links n).cells + length given.cells ≤ (on_link links n).land.count
@@ -133,11 +133,11 @@ module _ {key : Key} {value : State} {history : List Visit} {hand : Row} {stage 
         pub took : length taken.cells ≡ more
         took = ap (λ r. length r.cells) is ∙ length-take-le more (on_link pushed stage).cells waits
 
-        pub comes_behind : taken.at ≡ rest.at + length rest.cells
-        comes_behind =
+        pub comes_after : taken.at ≡ rest.at + length rest.cells
+        comes_after =
             let d : length (drop done hand.cells) ≡ length hand.cells - done = length-drop done hand.cells in
             ap (λ r. r.at) is ∙ ap (λ r. r.at) t.own_is ∙ (fit.own_link key value history hand stage done word may p.hold stage may.allowed.is_stage).0
-            ∙ fit.with_behind key value history hand stage done word may p.hold s2 p.changes p.hold2 ∙ (λ i. (hand.at + done) + sym d i) ∙ ap (λ r. r.at + length r.cells) (sym cut.rest_is)
+            ∙ fit.with_after key value history hand stage done word may p.hold s2 p.changes p.hold2 ∙ (λ i. (hand.at + done) + sym d i) ∙ ap (λ r. r.at + length r.cells) (sym cut.rest_is)
 
         pub same_land : taken.land ≡ rest.land
         same_land = ap (λ r. r.land) is ∙ ap (λ r. r.land) t.own_is ∙ (fit.own_link key value history hand stage done word may p.hold stage may.allowed.is_stage).1 ∙ sym may.hand_is.same ∙ ap (λ r. r.land) (sym cut.rest_is)

@@ -63,15 +63,15 @@ module _ (key : Key) (value : State) (history : List Visit) (hand : Row) (stage 
   many : length v.cells ≡ done
   many = length-take-le done hand.cells may.done_within
 
-  behind_link : on_link pulled next ≡ row_of (on_link links next).at (on_link links next).land ((on_link links next).cells ++ v.cells)
-  behind_link = get_or-set_other pushed stage next _ no_row (λ e. apart (sym e)) ∙ get_or-set_same links next _ no_row (let a = fit.next_there key value history hand stage done word may hold in let b = may.stands.count in omega (arith, a, b))
+  after_link : on_link pulled next ≡ row_of (on_link links next).at (on_link links next).land ((on_link links next).cells ++ v.cells)
+  after_link = get_or-set_other pushed stage next _ no_row (λ e. apart (sym e)) ∙ get_or-set_same links next _ no_row (let a = fit.next_there key value history hand stage done word may hold in let b = may.stands.count in omega (arith, a, b))
 
   -- the cells given stand last on the link after the stage
   pub last_cells : drop (length (on_link pulled next).cells - done) (on_link pulled next).cells ≡ v.cells
   last_cells =
       let xs = (on_link links next).cells in
       let n : length (xs ++ v.cells) - done ≡ length xs = let a = length-append xs v.cells in let b = many in omega (arith, a, b) in
-      (λ i. drop (length (behind_link i).cells - done) (behind_link i).cells) ∙ drop_tail xs v.cells (length (xs ++ v.cells) - done) n
+      (λ i. drop (length (after_link i).cells - done) (after_link i).cells) ∙ drop_tail xs v.cells (length (xs ++ v.cells) - done) n
 
   abbrev pub Free : Row → Type 0
   Free r = (r.at ≡ (s2.stages 0).taken) × (r.land ≡ land_of key) × (length r.cells + (s2.stages 0).taken ≡ length (s2.stages (suc key.plan.plugins)).given + key.plan.buffer)
@@ -95,7 +95,7 @@ module _ (key : Key) (value : State) (history : List Visit) (hand : Row) (stage 
       giving_back n e =
           let r : Row = on_link links 0 in
           let z : next ≡ 0 = ap (λ b. if b then 0 else suc stage) (Rattle.std.proofs.Common.eq-eqb stage (suc key.plan.plugins) e) in
-          let is : on_link pulled 0 ≡ row_of r.at r.land (r.cells ++ v.cells) = ap (on_link pulled) (sym z) ∙ behind_link ∙ (λ i. row_of (on_link links (z i)).at (on_link links (z i)).land ((on_link links (z i)).cells ++ v.cells)) in
+          let is : on_link pulled 0 ≡ row_of r.at r.land (r.cells ++ v.cells) = ap (on_link pulled) (sym z) ∙ after_link ∙ (λ i. row_of (on_link links (z i)).at (on_link links (z i)).land ((on_link links (z i)).cells ++ v.cells)) in
           let o : (s2.stages 0).taken ≡ (s.stages 0).taken = ap (λ x. x.taken) (changes.others 0 (λ q. n (sym q))) in
           let g : length (s2.stages (suc key.plan.plugins)).given ≡ length (s.stages (suc key.plan.plugins)).given + done =
           subst (λ k. length (s2.stages k).given ≡ length (s.stages k).given + done) e (ap length changes.given ∙ length-append (s.stages stage).given v.cells ∙ ap (λ k. length (s.stages stage).given + k) many) in

@@ -9,7 +9,7 @@ use Rattle.chain_core.specs.Laws.{ChangesOneStage, LeavesOthers}
 use Rattle.ts_land.specs.Pieces.{Land}
 use Rattle.window_ring.specs.Hands.{Row}
 use Rattle.window_ring.specs.declared.state.State.{State}
-use Rattle.chain_core.specs.CoreNumbers.{IsLawfulPlan}
+use Rattle.chain_core.specs.CoreNumbers.{IsValidPlan}
 use Rattle.window_ring.specs.declared.view.Key.{Key}
 use Rattle.window_ring.specs.Views.{NoneOf, land_of}
 use Rattle.window_ring.specs.Stands.{Stands}
@@ -33,7 +33,7 @@ module _ (plan : CorePlan) (users : UsersArePlugins plan)
       record { at = h.at ∙ ap (λ z. length z.given) same; cells = subst (λ z. length hand.cells + length z.given ≡ z.taken) same h.cells; same = h.same }
 
 -- a seat that has the turn may make its visit
-module _ (key : Key) (lawful : IsLawfulPlan key.plan)
+module _ (key : Key) (valid : IsValidPlan key.plan)
     (changes : (plan : CorePlan) (state : ChainState) (visit : Visit) → ChangesOneStage plan state (visited plan state visit) visit)
     (leaves : (plan : CorePlan) (visits : List Visit) (visit : Visit) → UsersArePlugins plan → ChainRun plan (visit ∷ visits) → LeavesOthers plan (state_after plan visits) (state_after plan (visit ∷ visits)) visit) where
   pub may_give : (value : State) (history later seen : List Visit) (hand : Row) (k done : ℕ) (word : StageWord) → Stands key value history → ChainRun key.plan history → history ≡ later ++ seen → NoneOf k later
@@ -41,8 +41,8 @@ module _ (key : Key) (lawful : IsLawfulPlan key.plan)
   may_give value history later seen hand k done word stands run is none h within may = record {
     stands = stands;
     run = run;
-    lawful = lawful;
-    hand_is = subst (λ l. IsHandOf (state_after key.plan l) k (land_of key) hand) (sym is) (hand_stays key.plan lawful.users changes leaves k (land_of key) hand later seen none h);
+    valid = valid;
+    hand_is = subst (λ l. IsHandOf (state_after key.plan l) k (land_of key) hand) (sym is) (hand_stays key.plan valid.users changes leaves k (land_of key) hand later seen none h);
     done_within = within;
-    allowed = subst (λ l. Allowed key.plan (state_after key.plan l) (giving hand k done word)) (sym is) (allowed_stays key.plan lawful.users changes leaves (giving hand k done word) later seen none (subst (ChainRun key.plan) is run) may);
+    allowed = subst (λ l. Allowed key.plan (state_after key.plan l) (giving hand k done word)) (sym is) (allowed_stays key.plan valid.users changes leaves (giving hand k done word) later seen none (subst (ChainRun key.plan) is run) may);
   }

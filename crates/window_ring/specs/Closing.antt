@@ -4,7 +4,7 @@ use Rattle.atomic_table.specs.Seated.{TableId}
 use Rattle.chain_core.specs.declared.closed.Closed.{Closed}
 use Rattle.chain_core.specs.Machine.{Visit, ChainState, progress_of_stages}
 use Rattle.chain_core.specs.ChainRun.{ChainRun, state_after}
-use Rattle.chain_core.specs.CoreNumbers.{IsLawfulPlan}
+use Rattle.chain_core.specs.CoreNumbers.{IsValidPlan}
 use Rattle.chain_core.specs.Close.{closed_of}
 use Rattle.window_ring.specs.Hands.{Row, no_row}
 use Rattle.window_ring.specs.declared.state.State.{State}
@@ -46,7 +46,7 @@ pub record IsDone (key : Key) (table : TableId) (k : ℕ) (seat : StageSeat) : T
 -- the seats of the first stages, and holdings of the others
 pub record Covering (key : Key) (table : TableId) (held : List Holding) (seats : List StageSeat)
     : Type 0 where
-  pub lawful : IsLawfulPlan key.plan
+  pub valid : IsValidPlan key.plan
   pub few : length seats ≤ suc key.plan.plugins
   pub seats_are : (k : ℕ) (d : StageSeat) → k < length seats → IsDone key table k (slice_index_or seats k d)
   pub done : Each (λ (h : Holding). HasEnded key h.stage h.seen) held
@@ -80,7 +80,7 @@ pub record Gathered (key : Key) (held : List Holding) (seats : List StageSeat) (
 
 -- all seats of a ring, and its root
 pub record IsWhole (key : Key) (table : TableId) (seats : List StageSeat) : Type 0 where
-  pub lawful : IsLawfulPlan key.plan
+  pub valid : IsValidPlan key.plan
   pub all : length seats ≡ suc (suc key.plan.plugins)
   pub seats_are : (k : ℕ) (d : StageSeat) → k < length seats → IsDone key table k (slice_index_or seats k d)
 

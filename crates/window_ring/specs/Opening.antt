@@ -7,7 +7,7 @@ use Rattle.window_ring.specs.declared.view.Key.{Key}
 use Rattle.window_ring.specs.declared.state.State.{State}
 use Rattle.window_ring.specs.declared.opening.NewRing.{NewRing}
 use Rattle.window_ring.specs.Stands.{Stands}
-use Rattle.chain_core.specs.CoreNumbers.{IsLawfulPlan}
+use Rattle.chain_core.specs.CoreNumbers.{IsValidPlan}
 use Rattle.window_ring.specs.declared.stage_seat.StageSeat.{StageSeat}
 use Rattle.window_ring.specs.Views.{at_rest, root_view, land_of}
 
@@ -25,7 +25,7 @@ AreFresh key table seats = (k : ℕ) (d : StageSeat) → k < length seats
 
 -- one value, which stands for no visit
 pub record IsReady (plan : CorePlan) (key : Key) (slots : List State) : Type 0 where
-  pub lawful : IsLawfulPlan plan
+  pub valid : IsValidPlan plan
   pub plan_is : key.plan ≡ plan
   pub value : State
   pub one : slots ≡ value ∷ []

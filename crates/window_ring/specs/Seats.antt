@@ -3,7 +3,7 @@ use Rattle.std.specs.Prelude.{◌≡◌, ◌≢◌, ℕ, suc, ◌-◌, ◌<◌, 
 use Rattle.atomic_table.specs.Seated.{TableId}
 use Rattle.chain_core.specs.declared.news.News.{News}
 use Rattle.chain_core.specs.declared.stage_word.StageWord.{StageWord}
-use Rattle.chain_core.specs.CoreNumbers.{IsLawfulPlan}
+use Rattle.chain_core.specs.CoreNumbers.{IsValidPlan}
 use Rattle.chain_core.specs.Machine.{Visit, news_after, Allowed}
 use Rattle.chain_core.specs.ChainRun.{ChainRun, state_after}
 use Rattle.window_ring.specs.declared.ring.Ring.{Ring}
@@ -49,7 +49,7 @@ pub record IsAt (key : Key) (table : TableId) (seat : StageSeat) (done : ℕ) (w
   pub seat_is : IsSeat key table seat
   pub words : 0 < table.words
   pub slots : table.slots ≡ 1
-  pub lawful : IsLawfulPlan key.plan
+  pub valid : IsValidPlan key.plan
   pub done_within : done ≤ length seat.hand.cells
   pub allowed : Allowed key.plan (state_after key.plan (seen_of seat)) (giving seat.hand seat.stage done word)
 

@@ -4,7 +4,7 @@ use Rattle.ts_packet.specs.declared.cell.Cell.{Cell}
 use Rattle.ts_land.specs.Pieces.{Land}
 use Rattle.chain_core.specs.declared.news.News.{News}
 use Rattle.chain_core.specs.declared.stage_word.StageWord.{StageWord}
-use Rattle.chain_core.specs.CoreNumbers.{IsLawfulPlan}
+use Rattle.chain_core.specs.CoreNumbers.{IsValidPlan}
 use Rattle.window_ring.specs.declared.view.Key.{Key}
 use Rattle.chain_core.specs.Machine.{Visit, visit_of, news_after, ChainState, Allowed}
 use Rattle.chain_core.specs.ChainRun.{ChainRun, state_after}
@@ -34,7 +34,7 @@ pub record MayGive (key : Key) (value : State) (history : List Visit) (hand : Ro
     (word : StageWord) : Type 0 where
   pub stands : Stands key value history
   pub run : ChainRun key.plan history
-  pub lawful : IsLawfulPlan key.plan
+  pub valid : IsValidPlan key.plan
   pub hand_is : IsHandOf (state_after key.plan history) stage (land_of key) hand
   pub done_within : done ≤ length hand.cells
   pub allowed : Allowed key.plan (state_after key.plan history) (giving hand stage done word)

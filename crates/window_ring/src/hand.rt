@@ -82,7 +82,7 @@ impl Hand {
             );
         }
         if n > len {
-            return cut_behind(at, base, count, first, second, n);
+            return cut_after(at, base, count, first, second, n);
         }
         let next = at + n as u64;
         if n == len {
@@ -325,7 +325,7 @@ impl Hand {
 }
 
 // A cut after the first window.
-fn cut_behind(
+fn cut_after(
     at: u64,
     base: *mut Cell,
     count: usize,

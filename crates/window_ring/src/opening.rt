@@ -1,7 +1,7 @@
 //! The making of a ring: all its memory, its seats and its bells.
 
 ghost use Rattle.std.specs.Prelude.{IfOk, ◌≡◌, ◌+◌, ◌≤◌, ◌<◌, ℕ, suc, List, [], ◌∷◌, ◌++◌, length, replicate, slice_index_or, vec_len, vec_capacity};
-ghost use Rattle.chain_core.specs.CoreNumbers.{IsLawfulPlan};
+ghost use Rattle.chain_core.specs.CoreNumbers.{IsValidPlan};
 ghost use Rattle.chain_core.specs.declared.core_plan.CorePlan.{CorePlan};
 ghost use Rattle.window_ring.specs.declared.view.Key.{Key};
 ghost use Rattle.ts_land.specs.Pieces.{Land};
@@ -103,7 +103,7 @@ fn fill_seats(
 
 // All memory of a ring but that of its table.
 fn set_up(alloc: Global, plan: &CorePlan) -> Result<Ready, AllocError>
-    requires { IsLawfulPlan plan.now }
+    requires { IsValidPlan plan.now }
     ensures { IfOk result (λ r. IsReady plan.now r.key r.slots.items
         × (vec_len r.seats ≡ 0) × (plan.now.plugins + 2 ≤ vec_capacity r.seats)) }
 {
@@ -179,7 +179,7 @@ fn discard(mut slots: Vec<State>)
 
 /// A ring of this plan, or `AllocError` where there is no memory for it. Later calls allocate nothing.
 pub fn new_ring(alloc: Global, plan: &CorePlan) -> Result<NewRing, AllocError>
-    requires { IsLawfulPlan plan.now }
+    requires { IsValidPlan plan.now }
     ensures { IfOk result (λ r. IsNew plan.now r) }
 {
     let Ready {

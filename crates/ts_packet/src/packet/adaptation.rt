@@ -9,7 +9,7 @@ const LENGTH_ALONE: u8 = 183;
 /// The longest adaptation field with a payload after it.
 const LENGTH_WITH_PAYLOAD: u8 = 182;
 
-#[tactic(auto, unfolding(bit_rows::specs::BitRow::field, bit_rows::specs::BitRow::bit_of, crate::specs::Adaptation::adaptation_length_of, crate::specs::Adaptation::discontinuity_of))]
+#[tactic(auto, unfolding(ts_bit_rows::specs::BitRow::field, ts_bit_rows::specs::BitRow::bit_of, crate::specs::Adaptation::adaptation_length_of, crate::specs::Adaptation::discontinuity_of))]
 impl Packet {
     /// `adaptation_field_length`, where the packet has an adaptation field and the length is valid:
     /// 183 without a payload, at most 182 with a payload after the field.

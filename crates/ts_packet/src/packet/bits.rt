@@ -1,6 +1,6 @@
 //! Writes to bits and bytes of a packet; none of them reaches the sync byte.
 ghost use Rattle.std.specs.Prelude.{◌≡◌, ◌+◌, ◌*◌, ◌^◌, ◌<◌, ◌≤◌, length, slice_set};
-ghost use Rattle.bit_rows.specs.BitRow.{SetsField};
+ghost use Rattle.ts_bit_rows.specs.BitRow.{SetsField};
 ghost use Rattle.ts_packet.specs.Header.{byte_with, row_with};
 ghost use Rattle.ts_packet.specs.Packet.{IsPacket};
 ghost use Rattle.ts_packet.specs.Payload.{with_piece};
@@ -26,7 +26,7 @@ impl Packet {
     /// Replaces `count` bits of the byte at `place`, from its bit `first` on, counted from the highest.
     #[inline]
     pub(super) fn write_bits(&mut self, place: usize, first: u32, count: u32, value: u8)
-        requires behind_sync { 0 < place }
+        requires after_sync { 0 < place }
         requires place_fits { place < PACKET_SIZE }
         requires inside { first + count ≤ 8 }
         requires fits { value < 2 ^ count }
@@ -40,7 +40,7 @@ impl Packet {
     /// Replaces the byte at `place`.
     #[inline]
     pub(super) fn write_byte(&mut self, place: usize, value: u8)
-        requires behind_sync { 0 < place }
+        requires after_sync { 0 < place }
         requires place_fits { place < PACKET_SIZE }
         ensures row { self.new ≡ slice_set self.old place value }
         ensures field { SetsField self.old self.new (8 * place) 8 value }
@@ -52,7 +52,7 @@ impl Packet {
     /// Copies a piece over the bytes from `at` on.
     #[inline]
     pub(super) fn write_bytes(&mut self, at: usize, piece: &[u8])
-        requires behind_sync { 0 < at }
+        requires after_sync { 0 < at }
         requires fits { at + length piece.now ≤ PACKET_SIZE }
         ensures row { self.new ≡ with_piece self.old at piece.now }
         ensures packet { IsPacket self.new }

@@ -39,7 +39,7 @@ impl Packet {
     }
 
     /// Whether a valid adaptation field has its PCR_flag set and room for a PCR.
-    #[tactic(auto, unfolding(bit_rows::specs::BitRow::field, bit_rows::specs::BitRow::bit_of, crate::specs::Pcr::has_pcr_of))]
+    #[tactic(auto, unfolding(ts_bit_rows::specs::BitRow::field, ts_bit_rows::specs::BitRow::bit_of, crate::specs::Pcr::has_pcr_of))]
     fn has_pcr(&self) -> bool
         ensures value { result ≡ has_pcr_of self.now }
         ensures packet { IsPacket self.now }

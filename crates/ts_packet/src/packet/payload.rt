@@ -36,7 +36,7 @@ impl Packet {
 
     /// Copies a piece over the packet's bytes from `at` on; the header is never reached.
     pub fn put_payload(&mut self, at: u8, piece: &[u8])
-        requires behind_header { 4 ≤ at }
+        requires after_header { 4 ≤ at }
         requires fits { at + length piece.now ≤ PACKET_SIZE }
         ensures bytes { self.new ≡ with_piece self.old at piece.now }
         ensures packet { IsPacket self.new }

@@ -3,9 +3,9 @@ use Rattle.std.specs.Prelude.{map}
 use Rattle.std.specs.String.{string_bytes}
 use Rattle.clap.specs.Faults.{is_simple_and_free}
 use Rattle.clap.specs.Simple.{App}
-use Rattle.option_words.specs.Options.{findings, is_taken}
-use Rattle.option_words.specs.Refusal.{IsRefusedBy}
-use Rattle.option_words.specs.declared.words_rule.WordsRule.TheVariants.{Shape}
+use Rattle.plugin_options.specs.Options.{findings, is_taken}
+use Rattle.plugin_options.specs.Refusal.{IsRefusedBy}
+use Rattle.plugin_options.specs.declared.words_rule.WordsRule.TheVariants.{Shape}
 use Rattle.chain_args.proofs.found_words.found_words.Goals as goal
 
 pub of-requires : goal.of-requires

@@ -1,6 +1,6 @@
 use Rattle.std.proofs.Common.{refl}
 use Rattle.chain_args.specs.General.{general, general_rows}
-use Rattle.option_words.proofs.RefusalLemmas.{all_true, malformed, nothing_broken, value_refused}
+use Rattle.plugin_options.proofs.RefusalLemmas.{all_true, malformed, nothing_broken, value_refused}
 use Rattle.chain_args.proofs.general_words.general_settings.Goals as goal
 
 pub returns-in_err-buffer_packets-clause-reads : goal.returns-in_err-buffer_packets-clause-reads

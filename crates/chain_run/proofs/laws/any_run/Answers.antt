@@ -4,8 +4,8 @@ use Rattle.chain_run.proofs.laws.any_run.Goals as goal
 
 pub returns-clause-stages : goal.returns-clause-stages
 returns-clause-stages g c =
-    are-stages (seeing g.S.Source.seen g.K.Sink.seen g.P.Plugin.rule g.P.Plugin.stands_for g.P.Plugin.steady)
+    are-stages (seeing g.S.Source.seen g.K.Sink.seen g.P.Plugin.rule g.P.Plugin.stands_for g.P.Plugin.preallocated)
 
 pub returns-clause-ends : goal.returns-clause-ends
 returns-clause-ends g c =
-    run-of (seeing g.S.Source.seen g.K.Sink.seen g.P.Plugin.rule g.P.Plugin.stands_for g.P.Plugin.steady) c.machine_laws.ensures
+    run-of (seeing g.S.Source.seen g.K.Sink.seen g.P.Plugin.rule g.P.Plugin.stands_for g.P.Plugin.preallocated) c.machine_laws.ensures

@@ -8,7 +8,7 @@ pub returns-then-len-le1-clause-taken : goal.returns-then-len-le1-clause-taken
 returns-then-len-le1-clause-taken g t c = (
   [],
   sym (append-nil c.args.plugins.now.items),
-  none-taken (seeing g.S.Source.seen g.K.Sink.seen g.P.Plugin.rule g.P.Plugin.stands_for g.P.Plugin.steady) c.args.parts.now.items (omega arith) c.requires.kinds,
+  none-taken (seeing g.S.Source.seen g.K.Sink.seen g.P.Plugin.rule g.P.Plugin.stands_for g.P.Plugin.preallocated) c.args.parts.now.items (omega arith) c.requires.kinds,
 )
 
 pub returns-clause-one_left : goal.returns-clause-one_left

@@ -7,17 +7,17 @@ use Rattle.chain_run.proofs.parts.lay_stages.Goals as goal
 
 pub push_reserved-requires-2 : goal.push_reserved-requires-2
 push_reserved-requires-2 g c =
-    let many = made-length (seeing g.S.Source.seen g.K.Sink.seen g.P.Plugin.rule g.P.Plugin.stands_for g.P.Plugin.steady) c.add_plugins.ensures.made.0 c.args.plugins.now.items c.add_plugins.ensures.made.2 in
+    let many = made-length (seeing g.S.Source.seen g.K.Sink.seen g.P.Plugin.rule g.P.Plugin.stands_for g.P.Plugin.preallocated) c.add_plugins.ensures.made.0 c.args.plugins.now.items c.add_plugins.ensures.made.2 in
     let row = ap (λ (l : List (StagePart g.row.S.Denot g.row.K.Denot g.row.P.Denot)). length l) c.add_plugins.ensures.made.1 in
     let first = ap (λ (l : List (StagePart g.row.S.Denot g.row.K.Denot g.row.P.Denot)). length l) c.push_reserved.ensures.items in
     let none = ap (λ (l : List (StagePart g.row.S.Denot g.row.K.Denot g.row.P.Denot)). length l) c.requires.none in
     omega (arith, length-append c.push_reserved.new.self.items c.add_plugins.ensures.made.0, length-append c.args.rooms.row.items (c.of_input.result ∷ []), c.add_plugins.ensures.capacity, c.push_reserved.ensures.capacity, c.requires.room)
 
 pub returns-clause-new : goal.returns-clause-new
-returns-clause-new g c = λ plan lawful number.
-    laid-row (seeing g.S.Source.seen g.K.Sink.seen g.P.Plugin.rule g.P.Plugin.stands_for g.P.Plugin.steady) c.args.input c.args.stuffing c.args.plugins.now.items c.args.output plan c.push_reserved-2.new.self.items
+returns-clause-new g c = λ plan valid number.
+    laid-row (seeing g.S.Source.seen g.K.Sink.seen g.P.Plugin.rule g.P.Plugin.stands_for g.P.Plugin.preallocated) c.args.input c.args.stuffing c.args.plugins.now.items c.args.output plan c.push_reserved-2.new.self.items
     (record {
-      lawful = lawful;
+      valid = valid;
       fresh = c.requires.fresh;
       number = omega (arith, number);
       opens = g.met.P.Plugin.starts_open;

@@ -8,26 +8,26 @@ use Rattle.chain_run.proofs.parts.take_apart.Goals as goal
 
 pub remove-requires : goal.remove-requires
 remove-requires g c =
-    omega (arith, some-stages (seeing g.S.Source.seen g.K.Sink.seen g.P.Plugin.rule g.P.Plugin.stands_for g.P.Plugin.steady) c.args.parts.items c.requires.stages)
+    omega (arith, some-stages (seeing g.S.Source.seen g.K.Sink.seen g.P.Plugin.rule g.P.Plugin.stands_for g.P.Plugin.preallocated) c.args.parts.items c.requires.stages)
 
 pub into_input-input-requires : goal.into_input-input-requires
 into_input-input-requires g c =
-    let see = (seeing g.S.Source.seen g.K.Sink.seen g.P.Plugin.rule g.P.Plugin.stands_for g.P.Plugin.steady) in
+    let see = (seeing g.S.Source.seen g.K.Sink.seen g.P.Plugin.rule g.P.Plugin.stands_for g.P.Plugin.preallocated) in
     (subst (AreStages see) (first-taken c.args.parts.items c.remove.new.self.items c.remove.result (some-stages see c.args.parts.items c.requires.stages) c.remove.ensures.value c.remove.ensures.by_index.2) c.requires.stages).0
 
 pub take_plugins-requires-clause-kinds : goal.take_plugins-requires-clause-kinds
 take_plugins-requires-clause-kinds g c =
-    let see = (seeing g.S.Source.seen g.K.Sink.seen g.P.Plugin.rule g.P.Plugin.stands_for g.P.Plugin.steady) in
+    let see = (seeing g.S.Source.seen g.K.Sink.seen g.P.Plugin.rule g.P.Plugin.stands_for g.P.Plugin.preallocated) in
     (subst (AreStages see) (first-taken c.args.parts.items c.remove.new.self.items c.remove.result (some-stages see c.args.parts.items c.requires.stages) c.remove.ensures.value c.remove.ensures.by_index.2) c.requires.stages).1
 
 pub into_output-output-requires : goal.into_output-output-requires
 into_output-output-requires g c =
-    let see = (seeing g.S.Source.seen g.K.Sink.seen g.P.Plugin.rule g.P.Plugin.stands_for g.P.Plugin.steady) in
+    let see = (seeing g.S.Source.seen g.K.Sink.seen g.P.Plugin.rule g.P.Plugin.stands_for g.P.Plugin.preallocated) in
     subst (ArePluginsAndOutput see) (one-is c.take_plugins.new.parts.items c.remove-2.result (omega (arith, c.take_plugins.ensures.one)) c.remove-2.ensures.value) c.take_plugins.ensures.output
 
 pub returns : goal.returns
 returns g c =
-    let see = (seeing g.S.Source.seen g.K.Sink.seen g.P.Plugin.rule g.P.Plugin.stands_for g.P.Plugin.steady) in
+    let see = (seeing g.S.Source.seen g.K.Sink.seen g.P.Plugin.rule g.P.Plugin.stands_for g.P.Plugin.preallocated) in
     record {
       first = c.remove.result;
       rest = c.remove.new.self.items;

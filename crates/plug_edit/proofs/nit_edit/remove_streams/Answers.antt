@@ -2,7 +2,7 @@ use Rattle.std.proofs.Common.{rules, map, ap, refl, ◌∙◌}
 use Rattle.std.specs.Prelude.{not}
 use Rattle.std.proofs.lemmas.Fn.{filter_same}
 use Rattle.ts_si.specs.SiTables.{stream_item}
-use Rattle.plug_conf.specs.NumberSet.{has_number}
+use Rattle.plugin_options.specs.NumberSet.{has_number}
 use Rattle.plug_psi.specs.NumbersHeld.{number_at}
 use Rattle.plug_psi.proofs.KeptView.{kept_view}
 use Rattle.plug_edit.proofs.nit_edit.remove_streams.Goals as goal

@@ -1,7 +1,7 @@
 use Rattle.std.proofs.Common.{◌∙◌, ap₂, refl, sym}
 use Rattle.plug_edit.specs.Versions.{versions_agree}
 use Rattle.plug_edit.specs.PatWords.{pat, pat_rows}
-use Rattle.option_words.proofs.RefusalLemmas.{all_true, malformed, nothing_broken, value_refused}
+use Rattle.plugin_options.proofs.RefusalLemmas.{all_true, malformed, nothing_broken, value_refused}
 use Rattle.plug_edit.proofs.WordsLemmas.{conflict_broken}
 use Rattle.plug_edit.proofs.pat_words.pat_settings.Goals as goal
 

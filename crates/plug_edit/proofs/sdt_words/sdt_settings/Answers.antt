@@ -3,7 +3,7 @@ use Rattle.plug_edit.specs.SdtSettings.{sdt_together}
 use Rattle.plug_edit.specs.SdtWords.{sdt, sdt_rows, sdt_settings}
 use Rattle.plug_edit.specs.declared.sdt_conf.EditSdtConf.{EditSdtConf}
 use Rattle.plug_edit.proofs.WordsLemmas.{conflict_broken}
-use Rattle.option_words.proofs.RefusalLemmas.{all_true, malformed, nothing_broken, value_refused}
+use Rattle.plugin_options.proofs.RefusalLemmas.{all_true, malformed, nothing_broken, value_refused}
 use Rattle.plug_edit.proofs.sdt_words.sdt_settings.Goals as goal
 
 pub returns-in_err-service-clause-reads : goal.returns-in_err-service-clause-reads

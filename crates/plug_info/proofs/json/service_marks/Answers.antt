@@ -1,5 +1,5 @@
 use Rattle.std.proofs.Common.{ap, ap₂, ◌∙◌}
-use Rattle.info_texts.specs.InfoJson.{service_marks}
+use Rattle.plug_info_texts.specs.InfoJson.{service_marks}
 use Rattle.plug_info.specs.CaSystems.{program_descriptors, system_ids}
 use Rattle.plug_info.specs.SdtStatus.{service_status}
 use Rattle.plug_info.proofs.json.service_marks.Goals as goal

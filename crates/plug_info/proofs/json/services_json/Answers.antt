@@ -2,7 +2,7 @@ use Rattle.std.proofs.Common.{ℕ, ◌++◌, List, map, ap, ◌∙◌}
 use Rattle.std.specs.List.{flat_map}
 use Rattle.ts_packet.specs.Cells.{live_packets}
 use Rattle.plug_psi.specs.InForce.{pat_of, services_in}
-use Rattle.info_texts.specs.InfoJson.{behind_comma}
+use Rattle.plug_info_texts.specs.InfoJson.{after_comma}
 use Rattle.plug_info.specs.InfoRule.{service_object}
 use Rattle.plug_info.proofs.JsonLemmas.{flat_map_map}
 use Rattle.plug_info.proofs.json.services_json.Goals as goal
@@ -13,5 +13,5 @@ returns c = λ cells w s.
     c.in_ok-text.ensures (map (service_object cells) those)
     (c.deref.ensures
     ∙ (c.in_ok-push_services.ensures cells w s
-    ∙ (ap (λ (z : List ℕ). z ++ flat_map (λ x. behind_comma (service_object cells x)) those) c.new-items.ensures.bytes
-    ∙ flat_map_map behind_comma (service_object cells) those)))
+    ∙ (ap (λ (z : List ℕ). z ++ flat_map (λ x. after_comma (service_object cells x)) those) c.new-items.ensures.bytes
+    ∙ flat_map_map after_comma (service_object cells) those)))

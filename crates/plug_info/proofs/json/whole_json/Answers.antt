@@ -1,8 +1,8 @@
 use Rattle.std.proofs.Common.{◌≡◌, ap, ◌∙◌}
-use Rattle.info_texts.specs.InfoJson.{number_or_null, stream_json}
+use Rattle.plug_info_texts.specs.InfoJson.{number_or_null, stream_json}
 use Rattle.plug_info.specs.InfoRule.{scene_of}
-use Rattle.info_texts.specs.declared.scene.Scene.{Scene}
-use Rattle.info_texts.specs.declared.stream_numbers.StreamNumbers.{StreamNumbers}
+use Rattle.plug_info_texts.specs.declared.scene.Scene.{Scene}
+use Rattle.plug_info_texts.specs.declared.stream_numbers.StreamNumbers.{StreamNumbers}
 use Rattle.plug_info.proofs.JsonLemmas.{whole_is}
 use Rattle.plug_info.proofs.json.whole_json.Goals as goal
 

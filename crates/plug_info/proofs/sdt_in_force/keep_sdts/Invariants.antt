@@ -1,5 +1,5 @@
 use Rattle.std.proofs.Common.{◌≡◌, ℕ, drop}
-use Rattle.plug_psi.specs.LastFound.{found_behind}
+use Rattle.plug_psi.specs.LastFound.{found_after}
 use Rattle.plug_info.specs.SdtInForce.{current_sdt, current_sdt_of}
 use Rattle.plug_info.specs.SdtStands.{kept_with, last_kept}
 use Rattle.plug_info.proofs.sdt_in_force.keep_sdts.Given as goal
@@ -7,8 +7,8 @@ use Rattle.plug_info.proofs.sdt_in_force.keep_sdts.Given as goal
 -- with the tables that are left they become what all of them make of them
 abbrev pub invariant-loop-table : goal.invariant-loop-table
 invariant-loop-table l = record {
-  each : (id : ℕ) → found_behind (current_sdt_of id) (kept_with l.kept id) (drop l.table-index l.tables)
-      ≡ found_behind (current_sdt_of id) (kept_with l.fn.kept id) l.tables;
-  last : found_behind current_sdt (last_kept l.kept) (drop l.table-index l.tables)
-      ≡ found_behind current_sdt (last_kept l.fn.kept) l.tables;
+  each : (id : ℕ) → found_after (current_sdt_of id) (kept_with l.kept id) (drop l.table-index l.tables)
+      ≡ found_after (current_sdt_of id) (kept_with l.fn.kept id) l.tables;
+  last : found_after current_sdt (last_kept l.kept) (drop l.table-index l.tables)
+      ≡ found_after current_sdt (last_kept l.fn.kept) l.tables;
 }

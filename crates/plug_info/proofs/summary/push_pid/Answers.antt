@@ -2,9 +2,9 @@ use Rattle.std.proofs.Common.{◌∷◌, [], ◌++◌, List, ℕ, ◌==◌, ◌&
 use Rattle.ts_packet.specs.Cells.{live_packets}
 use Rattle.plugin_notes.specs.PidPackets.{packets_on}
 use Rattle.plugin_trait.specs.PlacedLines.{placed_at}
-use Rattle.info_texts.specs.InfoTexts.{pid_text, portion_text}
-use Rattle.info_texts.specs.declared.pid_numbers.PidNumbers.{PidNumbers}
-use Rattle.info_texts.specs.declared.scene.Scene.{Scene}
+use Rattle.plug_info_texts.specs.InfoTexts.{pid_text, portion_text}
+use Rattle.plug_info_texts.specs.declared.pid_numbers.PidNumbers.{PidNumbers}
+use Rattle.plug_info_texts.specs.declared.scene.Scene.{Scene}
 use Rattle.plug_info.specs.InfoRule.{numbers_on, scene_of, use_of, users_of}
 use Rattle.plug_info.proofs.LineLemmas.{shown_is}
 use Rattle.plug_info.proofs.summary.push_pid.Goals as goal

@@ -1,9 +1,9 @@
 use Rattle.std.proofs.Common.{◌≡◌, ◌∷◌, [], ◌++◌, List, ℕ, ap, ap₂, ◌∙◌}
 use Rattle.plugin_trait.specs.PlacedLines.{placed_at}
 use Rattle.plug_info.specs.InfoRule.{scene_of}
-use Rattle.info_texts.specs.InfoTexts.{sdt_texts, stream_text}
-use Rattle.info_texts.specs.declared.scene.Scene.{Scene}
-use Rattle.info_texts.specs.declared.stream_numbers.StreamNumbers.{StreamNumbers}
+use Rattle.plug_info_texts.specs.InfoTexts.{sdt_texts, stream_text}
+use Rattle.plug_info_texts.specs.declared.scene.Scene.{Scene}
+use Rattle.plug_info_texts.specs.declared.stream_numbers.StreamNumbers.{StreamNumbers}
 use Rattle.plug_info.proofs.LineLemmas.{five_pushed}
 use Rattle.plug_info.proofs.summary.push_summary.Goals as goal
 

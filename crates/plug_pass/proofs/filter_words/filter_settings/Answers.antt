@@ -1,6 +1,6 @@
 use Rattle.std.proofs.Common.{◌∙◌, refl, sym}
 use Rattle.plug_pass.specs.FilterWords.{filter, filter_rows}
-use Rattle.option_words.proofs.RefusalLemmas.{malformed, value_refused}
+use Rattle.plugin_options.proofs.RefusalLemmas.{malformed, value_refused}
 use Rattle.plug_pass.proofs.filter_words.filter_settings.Goals as goal
 
 pub returns-in_err-label-clause-reads : goal.returns-in_err-label-clause-reads

@@ -1,6 +1,6 @@
 use Rattle.std.proofs.Common.{◌∙◌, refl, sym}
 use Rattle.plug_pass.specs.PatternWords.{pattern, pattern_rows}
-use Rattle.option_words.proofs.RefusalLemmas.{all_true, malformed, nothing_broken, value_refused}
+use Rattle.plugin_options.proofs.RefusalLemmas.{all_true, malformed, nothing_broken, value_refused}
 use Rattle.plug_pass.proofs.pattern_words.pattern_settings.Goals as goal
 
 pub returns-in_err-offset_pusi-clause-reads : goal.returns-in_err-offset_pusi-clause-reads

@@ -3,13 +3,13 @@ use Rattle.std.proofs.lemmas.List.{nil_from_length, take-take, take-append-le}
 use Rattle.ts_packet.specs.declared.cell.Cell.{Cell}
 use Rattle.chain_model.specs.Apply.{apply, apply_after}
 use Rattle.plugin_trait.specs.Driving.{Makes}
-use Rattle.plugin_trait.specs.Steps.{IsSteadyFor}
+use Rattle.plugin_trait.specs.Steps.{IsPreallocatedFor}
 use Rattle.plugin_trait.proofs.driver.apply_plugin.Goals as goal
 
 -- room for the notes on some positions is room for those on fewer
-steady_for_fewer : (steady : Option ℕ) (few many : ℕ) → few ≤ many → IsSteadyFor steady many → IsSteadyFor steady few
-steady_for_fewer None few many le is = is
-steady_for_fewer (Some room) few many le is = omega (arith, le, is)
+preallocated_for_fewer : (preallocated : Option ℕ) (few many : ℕ) → few ≤ many → IsPreallocatedFor preallocated many → IsPreallocatedFor preallocated few
+preallocated_for_fewer None few many le is = is
+preallocated_for_fewer (Some room) few many le is = omega (arith, le, is)
 
 pub returns-clause-room : goal.returns-clause-room
 returns-clause-room g c = λ is.
@@ -19,7 +19,7 @@ returns-clause-room g c = λ is.
       mark = met.mark;
       holds = met.holds;
       count = met.count;
-      within = steady_for_fewer (g.P.Plugin.steady c.args.plugin.now) _ _ (omega (arith, c.as_mut_slice.ensures.len)) is;
+      within = preallocated_for_fewer (g.P.Plugin.preallocated c.args.plugin.now) _ _ (omega (arith, c.as_mut_slice.ensures.len)) is;
     })
 
 pub returns-clause-makes : goal.returns-clause-makes

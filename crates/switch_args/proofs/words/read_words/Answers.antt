@@ -2,7 +2,7 @@ use Rattle.std.proofs.Common.{◌≡◌, ◌+◌, suc, ◌<◌, length, map, tak
 use Rattle.std.specs.String.{string_bytes}
 use Rattle.switch_args.specs.SwitchWords.{place, place_after, start, step}
 use Rattle.switch_args.specs.Readings.{Went, given_of, expected_of}
-use Rattle.switch_args.proofs.LawfulLemmas.{result-lawful}
+use Rattle.switch_args.proofs.ValidLemmas.{result-valid}
 use Rattle.switch_args.proofs.FormLemmas.{more, no-more, map-at, map-many, ends-whole}
 use Rattle.switch_args.proofs.words.read_words.Goals as goal
 
@@ -36,8 +36,8 @@ returns-clause-read c =
     let many : c.loop-at.at ≡ length ws = (let m = map-many string_bytes c.args.words.now in let a = c.loop-at.invariant.0 in let b = c.loop-at-test.false in omega (arith, m, a, b)) in
     ends-whole ws c.loop-at.at c.loop-at.reading c.end.result many c.loop-at.invariant.1 c.end.ensures
 
-pub returns-clause-lawful : goal.returns-clause-lawful
-returns-clause-lawful c =
+pub returns-clause-valid : goal.returns-clause-valid
+returns-clause-valid c =
     let ws = map string_bytes c.args.words.now in
     let many : c.loop-at.at ≡ length ws = (let m = map-many string_bytes c.args.words.now in let a = c.loop-at.invariant.0 in let b = c.loop-at-test.false in omega (arith, m, a, b)) in
-    result-lawful ws c.end.result (ends-whole ws c.loop-at.at c.loop-at.reading c.end.result many c.loop-at.invariant.1 c.end.ensures)
+    result-valid ws c.end.result (ends-whole ws c.loop-at.at c.loop-at.reading c.end.result many c.loop-at.invariant.1 c.end.ensures)

@@ -1,8 +1,8 @@
 use Rattle.tabcomp_top.proofs.CauseLemmas as lemmas
 use Rattle.tabcomp_top.proofs.law.causes.Goals as goal
 
-pub returns-clause-lawful : goal.returns-clause-lawful
-returns-clause-lawful c = lemmas.causes c.compiled_is_decompiled.ensures
+pub returns-clause-valid : goal.returns-clause-valid
+returns-clause-valid c = lemmas.causes c.compiled_is_decompiled.ensures
 
 pub returns-clause-canonical : goal.returns-clause-canonical
 returns-clause-canonical c = lemmas.canonical-told c.compiled_is_decompiled.ensures

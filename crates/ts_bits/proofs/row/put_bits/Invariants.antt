@@ -1,5 +1,5 @@
 use Rattle.std.proofs.Common.{◌-◌, ◌/◌, ◌^◌}
-use Rattle.bit_rows.specs.BitRow.{SetsField}
+use Rattle.ts_bit_rows.specs.BitRow.{SetsField}
 use Rattle.ts_bits.proofs.row.put_bits.Given as goal
 
 abbrev pub invariant-loop-i : goal.invariant-loop-i

@@ -1,6 +1,6 @@
 use Rattle.std.proofs.Common.{sym, arith, get_or, ◌<◌}
-use Rattle.bit_rows.proofs.Fields.{field-zero}
-use Rattle.bit_rows.proofs.RowParts.{field-more_byte, field-below_bytes}
+use Rattle.ts_bit_rows.proofs.Fields.{field-zero}
+use Rattle.ts_bit_rows.proofs.RowParts.{field-more_byte, field-below_bytes}
 use Rattle.ts_bits.proofs.row.whole_number.Goals as goal
 
 pub loop-byte-init : goal.loop-byte-init

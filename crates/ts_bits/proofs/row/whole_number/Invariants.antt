@@ -1,5 +1,5 @@
 use Rattle.std.proofs.Common.{◌≡◌, ◌*◌}
-use Rattle.bit_rows.specs.BitRow.{field}
+use Rattle.ts_bit_rows.specs.BitRow.{field}
 use Rattle.ts_bits.proofs.row.whole_number.Given as goal
 
 abbrev pub invariant-loop-byte : goal.invariant-loop-byte

@@ -1,4 +1,4 @@
-use Rattle.ts_demux.proofs.TablesBehind.{came_all, went_all, went_more, went_none}
+use Rattle.ts_demux.proofs.TablesAfter.{came_all, went_all, went_more, went_none}
 use Rattle.ts_demux.proofs.pid_tables.take_waiting.Goals as goal
 
 pub loop-section-init : goal.loop-section-init

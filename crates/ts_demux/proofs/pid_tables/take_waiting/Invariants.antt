@@ -1,6 +1,6 @@
 use Rattle.std.proofs.Common.{ℕ, List, length}
 use Rattle.ts_demux.specs.PidTables.{Holds}
-use Rattle.ts_demux.proofs.TablesBehind.{WentOn}
+use Rattle.ts_demux.proofs.TablesAfter.{WentOn}
 use Rattle.ts_demux.proofs.pid_tables.take_waiting.Given as goal
 
 abbrev pub invariant-loop-section : goal.invariant-loop-section

@@ -9,4 +9,4 @@ pub returns-clause-below : goal.returns-clause-below
 returns-clause-below c = omega (arith, pair_most 99 c.args.bits c.requires)
 
 pub returns-clause-most : goal.returns-clause-most
-returns-clause-most c = λ most lawful. pair_most most c.args.bits lawful
+returns-clause-most c = λ most valid. pair_most most c.args.bits valid

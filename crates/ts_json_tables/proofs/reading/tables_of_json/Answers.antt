@@ -5,7 +5,7 @@ use Rattle.std.proofs.lemmas.List.Elements.{All-push}
 use Rattle.std.proofs.lemmas.Result.{err_from_is_err_and}
 use Rattle.serde_json.specs.View.{items_view}
 use Rattle.ts_json_tables.specs.HeldTables.{TableValue, table_value}
-use Rattle.ts_json_tables.specs.LawfulTables.{IsTable}
+use Rattle.ts_json_tables.specs.ValidTables.{IsTable}
 use Rattle.ts_json_tables.specs.TableReading.{read_each, table_read}
 use Rattle.ts_json_tables.proofs.EachLemmas.{each_done, each_goes_on, each_stops, itself_done, itself_stops}
 use Rattle.ts_json_tables.proofs.reading.tables_of_json.Goals as goal
@@ -28,7 +28,7 @@ loop-value-preserved c =
           rw e (each_goes_on table_read c.loop-value.value-index c.args.nodes.now c.value-item.result one (λ xs. front ++ xs) (λ xs. (front ++ one ∷ []) ++ xs) _ c.loop-value-test.true c.value-item.is
           (rw c.loop-value.invariant.same at c.in_ok-table.ensures.read)
           (λ xs. sym (append_assoc front (one ∷ []) xs)) c.loop-value.invariant.read);
-      lawful = rw c.in_ok-push.ensures.items (All-push (λ t. IsTable (table_value t)) c.loop-value.tables.items c.in_ok-table.table c.loop-value.invariant.lawful c.in_ok-table.ensures.lawful);
+      valid = rw c.in_ok-push.ensures.items (All-push (λ t. IsTable (table_value t)) c.loop-value.tables.items c.in_ok-table.table c.loop-value.invariant.valid c.in_ok-table.ensures.valid);
     }
 
 pub returns-clause-read : goal.returns-clause-read

@@ -12,8 +12,8 @@ overflow_cast-number c =
     let inside = rw c.deref-payload-items.ensures.value at c.loop-payload-test.true in
     omega (arith, facts.last, facts.counted, length-map c.args.table.now.payloads.items (λ p. p.items), c.loop-payload.invariant.same, inside, ap (λ n. n.0) c.first_and_last-first.ensures, ap (λ n. n.1) c.first_and_last-first.ensures)
 
-pub section_with-requires-clause-lawful_id : goal.section_with-requires-clause-lawful_id
-section_with-requires-clause-lawful_id c = (long_facts (long_held c.args.table.now) c.requires).id
+pub section_with-requires-clause-valid_id : goal.section_with-requires-clause-valid_id
+section_with-requires-clause-valid_id c = (long_facts (long_held c.args.table.now) c.requires).id
 
 pub section_with-requires-clause-version : goal.section_with-requires-clause-version
 section_with-requires-clause-version c = (long_facts (long_held c.args.table.now) c.requires).version

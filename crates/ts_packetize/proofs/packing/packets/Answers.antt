@@ -9,14 +9,14 @@ loop-rest-init c = packs-first c.args.pid c.args.sections.now c.new-packets.resu
 
 pub loop-rest-smaller : goal.loop-rest-smaller
 loop-rest-smaller c =
-    packs-shorter c.loop-rest.rest.now c.rest_behind-behind.result.now c.loop-rest.waiting.now c.sections_behind-waiting.result.now
-    (sym c.is_done.ensures ∙ c.loop-rest-test.true) c.in_ok-next_packet.ensures.lawful c.rest_behind-behind.ensures c.sections_behind-waiting.ensures
+    packs-shorter c.loop-rest.rest.now c.rest_after-behind.result.now c.loop-rest.waiting.now c.sections_after-waiting.result.now
+    (sym c.is_done.ensures ∙ c.loop-rest-test.true) c.in_ok-next_packet.ensures.valid c.rest_after-behind.ensures c.sections_after-waiting.ensures
 
 pub loop-rest-preserved : goal.loop-rest-preserved
 loop-rest-preserved c =
-    packs-more c.args.pid c.next_counter-counter.result c.args.sections.now c.loop-rest.packets.items c.push.new.self.items c.loop-rest.rest.now c.rest_behind-behind.result.now c.in_ok-next_packet.field-0
-    c.loop-rest.waiting.now c.sections_behind-waiting.result.now c.loop-rest.invariant (sym c.is_done.ensures ∙ c.loop-rest-test.true) c.in_ok-next_packet.ensures.lawful
-    c.next_counter-counter.ensures.counter c.in_ok-next_packet.ensures.packet c.in_ok-push.ensures.items c.rest_behind-behind.ensures c.sections_behind-waiting.ensures
+    packs-more c.args.pid c.next_counter-counter.result c.args.sections.now c.loop-rest.packets.items c.push.new.self.items c.loop-rest.rest.now c.rest_after-behind.result.now c.in_ok-next_packet.field-0
+    c.loop-rest.waiting.now c.sections_after-waiting.result.now c.loop-rest.invariant (sym c.is_done.ensures ∙ c.loop-rest-test.true) c.in_ok-next_packet.ensures.valid
+    c.next_counter-counter.ensures.counter c.in_ok-next_packet.ensures.packet c.in_ok-push.ensures.items c.rest_after-behind.ensures c.sections_after-waiting.ensures
 
 pub returns-clause-packed : goal.returns-clause-packed
 returns-clause-packed c =

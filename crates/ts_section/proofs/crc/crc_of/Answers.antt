@@ -2,7 +2,7 @@ use Rattle.std.proofs.Common.{ℕ, List, length, ◌≡◌, ◌+◌, ◌*◌, �
 use Rattle.std.specs.Prelude.{bit_xor}
 use Rattle.std.proofs.lemmas.List.{take_more}
 use Rattle.std.proofs.lemmas.Nat.{xor_lt}
-use Rattle.bit_rows.specs.BitRow.{field}
+use Rattle.ts_bit_rows.specs.BitRow.{field}
 use Rattle.ts_section.specs.Crc.{crc_of, divided_row, remainder}
 use Rattle.ts_section.proofs.CrcLemmas.{crc_of-byte, crc_of-lt}
 use Rattle.ts_section.proofs.TableLemmas.{entry-is}

@@ -1,5 +1,5 @@
 use Rattle.std.proofs.Common.{◌≡◌, ◌≢◌, ℕ, ◌+◌, ◌-◌, ◌*◌, ◌≤◌, List, length, take, drop, get_or, Some, refl, sym, ap, ◌∙◌, subst, arith}
-use Rattle.bit_rows.specs.BitRow.{field}
+use Rattle.ts_bit_rows.specs.BitRow.{field}
 use Rattle.ts_section.specs.Crc.{crc_of}
 use Rattle.ts_section.specs.FirstBroken.{first_broken_long}
 use Rattle.ts_section.specs.declared.fault.SectionFault.TheVariants.{BadCrc}

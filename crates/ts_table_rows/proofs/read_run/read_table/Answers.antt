@@ -1,6 +1,6 @@
 use Rattle.std.proofs.Common.{length, refl, sym, ap, ◌∙◌, subst}
 use Rattle.std.specs.Prelude.{All}
-use Rattle.ts_section.specs.LawfulSection.{IsSection}
+use Rattle.ts_section.specs.ValidSection.{IsSection}
 use Rattle.std.proofs.lemmas.Result.{err_from_is_err_and}
 use Rattle.ts_table_rows.specs.TablePages.{table_page}
 use Rattle.ts_table_rows.specs.TableValues.{body_held}
@@ -35,4 +35,4 @@ returns-clause-read c =
 
 pub returns-clause-fits : goal.returns-clause-fits
 returns-clause-fits c =
-    c.read_tables_fit.ensures (table_page c.args.layout.now) c.args.run.now _ (subst (All (λ s. IsSection s)) refl c.sections.ensures.lawful) (returns-clause-read c)
+    c.read_tables_fit.ensures (table_page c.args.layout.now) c.args.run.now _ (subst (All (λ s. IsSection s)) refl c.sections.ensures.valid) (returns-clause-read c)

@@ -19,6 +19,6 @@ returns c =
       loop = c.loops_are_whole_or_cut.ensures.again;
     } in
     record {
-      again = λ p h sound fits some ss is. written-again laws c.made_sections_are_lawful.ensures.long p h ss sound fits some is;
-      whole = λ p h sound runs fits some ss is. written-whole laws c.made_sections_are_lawful.ensures.long p h ss sound runs fits some is;
+      again = λ p h sound fits some ss is. written-again laws c.made_sections_are_valid.ensures.long p h ss sound fits some is;
+      whole = λ p h sound runs fits some ss is. written-whole laws c.made_sections_are_valid.ensures.long p h ss sound runs fits some is;
     }

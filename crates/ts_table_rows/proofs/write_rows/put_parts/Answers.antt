@@ -5,8 +5,8 @@ use Rattle.ts_table_rows.proofs.write_rows.put_parts.Goals as goal
 
 pub returns : goal.returns
 returns c =
-    on_ok_weaker c.put_behind.result
+    on_ok_weaker c.put_after.result
     (λ last.
-    parts_written (table_page c.args.layout.now) c.args.values.now c.parted.result.0.now c.parted.result.1.now c.held_count.result c.args.own.now c.args.items.now c.args.out.now c.write_rows.new.out c.write_rows-2.new.out c.put_own.new.out c.put_behind.new.out
+    parts_written (table_page c.args.layout.now) c.args.values.now c.parted.result.0.now c.parted.result.1.now c.held_count.result c.args.own.now c.args.items.now c.args.out.now c.write_rows.new.out c.write_rows-2.new.out c.put_own.new.out c.put_after.new.out
     c.held_count.ensures.count c.parted.ensures.first c.parted.ensures.others c.in_ok-write_rows.ensures c.in_ok-write_rows-2.ensures c.in_ok-put_own.ensures last)
-    c.put_behind.ensures
+    c.put_after.ensures

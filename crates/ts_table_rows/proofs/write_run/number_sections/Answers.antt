@@ -21,7 +21,7 @@ pub one_section-requires : goal.one_section-requires
 one_section-requires c =
     let parts = head_parts (table_page c.args.layout.now) c.args.head c.requires.head in
     record {
-      lawful_id = parts.lawful_id;
+      valid_id = parts.valid_id;
       version = parts.version;
       number = omega (arith, c.loop-body.invariant.counted, c.loop-body.invariant.room);
       room = omega (arith, ap length c.deref.ensures.value, small_at c.args.bodies.now c.loop-body.body-index c.body-item.result c.requires.small c.loop-body-test.true c.body-item.is);

@@ -9,5 +9,5 @@ returns-in-Err-Failed g c = λ tables ready.
 
 pub returns-in-Ok : goal.returns-in-Ok
 returns-in-Ok g c = λ tables ready.
-    over-before _ c.open_behind.result c.args.plan.now tables (g.D.Desk.seen c.args.desk.now) (g.D.Desk.seen c.open_behind.new.desk)
-    (c.open_behind.ensures tables (g.D.Desk.seen c.args.desk.now) ready c.in-Ok.ensures.asked c.in-Ok.ensures.part)
+    over-before _ c.open_after.result c.args.plan.now tables (g.D.Desk.seen c.args.desk.now) (g.D.Desk.seen c.open_after.new.desk)
+    (c.open_after.ensures tables (g.D.Desk.seen c.args.desk.now) ready c.in-Ok.ensures.asked c.in-Ok.ensures.part)

@@ -8,8 +8,8 @@ run_in_one_thread-end-requires-clause-every g c κs within = c.in-Ok.ensures.2.r
 pub run_in_one_thread-end-requires-clause-unused : goal.run_in_one_thread-end-requires-clause-unused
 run_in_one_thread-end-requires-clause-unused g c κs within = c.in-Ok.ensures.2.unused
 
-pub run_in_one_thread-end-requires-clause-lawful : goal.run_in_one_thread-end-requires-clause-lawful
-run_in_one_thread-end-requires-clause-lawful g c κs within = c.in-Ok.ensures.2.ready.numbers_are.lawful
+pub run_in_one_thread-end-requires-clause-valid : goal.run_in_one_thread-end-requires-clause-valid
+run_in_one_thread-end-requires-clause-valid g c κs within = c.in-Ok.ensures.2.ready.numbers_are.valid
 
 pub run_in_one_thread-end-requires-clause-plugins : goal.run_in_one_thread-end-requires-clause-plugins
 run_in_one_thread-end-requires-clause-plugins g c κs within = omega (arith, ready-plugins _ _ _ _ _ _ c.in-Ok.field-0.core _ c.in-Ok.ensures.2.ready)

@@ -1,5 +1,5 @@
 use Rattle.std.proofs.Common.{◌≡◌, List, length, ap}
-use Rattle.plug_set.specs.declared.plugin_item.PluginItem.{PluginItem}
+use Rattle.plugin_set.specs.declared.plugin_item.PluginItem.{PluginItem}
 use Rattle.tsp_top.proofs.PlanningLemmas.{users-are-plugins}
 use Rattle.tsp_top.proofs.planning.planned_core.Goals as goal
 
@@ -7,7 +7,7 @@ pub returns : goal.returns
 returns c =
     let count : length c.as_slice.result.now ≡ length c.args.plan.now.plugins = ap (λ (l : List PluginItem). length l) c.as_slice.ensures in
     record {
-      lawful = record {
+      valid = record {
         plugins = rw count c.requires.few;
         some_buffer = c.planned_buffer.ensures.some;
         buffer = c.planned_buffer.ensures.bound;

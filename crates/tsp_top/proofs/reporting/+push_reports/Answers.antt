@@ -5,7 +5,7 @@ use Rattle.std.specs.List.{flat_map}
 use Rattle.chain_model.specs.Reports.{plugin_line, reports_from}
 use Rattle.plugin_trait.specs.HeardStands.{HeardStands}
 use Rattle.plugin_trait.specs.declared.line.Line.{Line}
-use Rattle.plug_set.specs.Plugins.{name_of}
+use Rattle.plugin_set.specs.Plugins.{name_of}
 use Rattle.tsp_top.specs.ByPlugin.{by_plugin}
 use Rattle.tsp_top.specs.PlannedChain.{later_tables, named_rules}
 use Rattle.tsp_top.proofs.ReportLemmas.{ReachesCut-split, report-split, rest-rules}

@@ -1,7 +1,7 @@
 use Rattle.std.proofs.Common.{◌≡◌, ◌+◌, [], ◌∷◌, ◌++◌, length, length-append, arith}
-use Rattle.plug_set.specs.declared.plugin_item.PluginItem.{PluginItem}
+use Rattle.plugin_set.specs.declared.plugin_item.PluginItem.{PluginItem}
 use Rattle.tsp_top.proofs.TableLemmas.{handed-on, ends-at-next, wants-behind-next, reads-one-more, one-more-table, rest-read}
-use Rattle.tsp_top.proofs.tables.+read_behind.Goals as goal
+use Rattle.tsp_top.proofs.tables.+read_after.Goals as goal
 
 pub returns-in_err-table : goal.returns-in_err-table
 returns-in_err-table g t c = λ before old number so_far.
@@ -18,8 +18,8 @@ pub returns : goal.returns
 returns g t c = λ before old number so_far.
     let item : PluginItem = c.in-Some.item.now in
     let longer : length (before ++ item ∷ []) ≡ length before + 1 = length-append before (item ∷ []) in
-    rest-read c.read_behind.result before item c.in-Some.rest.now c.args.items.now _ old (g.D.Desk.seen c.read_behind.new.desk) c.in-Some.ensures.cases.0
-    (c.read_behind.ensures (before ++ item ∷ []) old (omega (arith, number, longer))
+    rest-read c.read_after.result before item c.in-Some.rest.now c.args.items.now _ old (g.D.Desk.seen c.read_after.new.desk) c.in-Some.ensures.cases.0
+    (c.read_after.ensures (before ++ item ∷ []) old (omega (arith, number, longer))
     (one-more-table before item old (g.D.Desk.seen c.read_if_named.new.desk) c.args.tables.now.items c.push.new.self.items c.in_ok-table.table c.in-Ok.ensures.items
     (reads-one-more before _ old (g.D.Desk.seen c.args.desk.now) so_far item c.in-Some.rest.now c.in_ok-table.table.items (g.D.Desk.seen c.read_if_named.new.desk)
     c.in_ok-table.ensures.0 c.in_ok-table.ensures.1)))

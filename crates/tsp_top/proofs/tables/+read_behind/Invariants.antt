@@ -1,5 +1,5 @@
 use Rattle.std.proofs.Common.{length}
-use Rattle.tsp_top.proofs.tables.+read_behind.Given as goal
+use Rattle.tsp_top.proofs.tables.+read_after.Given as goal
 
-abbrev pub decreases-read_behind : goal.decreases-read_behind
-decreases-read_behind g l = length l.items.now
+abbrev pub decreases-read_after : goal.decreases-read_after
+decreases-read_after g l = length l.items.now

@@ -1,7 +1,7 @@
 use Rattle.std.proofs.Common.{◌≡◌, ℕ, List, [], ◌∷◌, IfSome, subst, sym, ◌∙◌, inr}
 use Rattle.ts_outside.specs.Desk.{content}
 use Rattle.ts_outside.specs.Saying.{Says}
-use Rattle.table_file.specs.declared.fault.TableFileFault.TheVariants.{TooMany}
+use Rattle.tabcomp_core.specs.declared.table_file_fault.TableFileFault.TheVariants.{TooMany}
 use Rattle.tsp_top.proofs.TableLemmas.{refused-ends, unread-ends, too-many, read-too-many, read-failed, read-no-memory, wants-same}
 use Rattle.tsp_top.proofs.tables.read_table.Goals as goal
 

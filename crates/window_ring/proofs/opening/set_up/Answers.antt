@@ -16,7 +16,7 @@ returns c =
     let one : c.push_reserved.new.self.items ≡ c.whole.result ∷ [] = c.push_reserved.ensures.items ∙ ap (λ l. l ++ c.whole.result ∷ []) c.in_ok-links.ensures.items in
     let links : value.links.items ≡ c.whole.result ∷ replicate n (row_of 0 (land_of key) []) = c.fill_links.ensures.1 ∙ ap (λ l. l ++ replicate n (row_of 0 (land_of key) [])) one in (
       record {
-        lawful = record { plugins = c.requires.plugins; some_buffer = c.requires.some_buffer; buffer = c.requires.buffer; most = c.requires.most; users = c.requires.users };
+        valid = record { plugins = c.requires.plugins; some_buffer = c.requires.some_buffer; buffer = c.requires.buffer; most = c.requires.most; users = c.requires.users };
         plan_is = refl;
         value = value;
         one = c.push_reserved-2.ensures.items ∙ ap (λ l. l ++ value ∷ []) c.in-Ok-with_capacity.ensures.items;

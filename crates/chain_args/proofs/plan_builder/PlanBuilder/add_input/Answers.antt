@@ -10,4 +10,4 @@ returns c = λ before stands.
     (sym c.is_some.ensures ∙ c.if-is_some.false)
     (ap (map string_bytes) c.in-Some.ensures.cases.0)
     (c.in-Some-of.ensures ∙ ap input_kind_named c.as_str.ensures.value)
-    c.in_ok-read.ensures.reads c.in_ok-read.ensures.lawful
+    c.in_ok-read.ensures.reads c.in_ok-read.ensures.valid

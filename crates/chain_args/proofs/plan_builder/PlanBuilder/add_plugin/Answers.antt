@@ -1,6 +1,6 @@
 use Rattle.std.proofs.Common.{◌∙◌, ap, map, arith, refl}
 use Rattle.std.specs.String.{string_bytes}
-use Rattle.plug_set.specs.Plugins.{plugin_kind_named}
+use Rattle.plugin_set.specs.Plugins.{plugin_kind_named}
 use Rattle.chain_args.proofs.PlanBuilderLemmas.{plugin_added}
 use Rattle.chain_args.proofs.plan_builder.PlanBuilder.add_plugin.Goals as goal
 
@@ -10,4 +10,4 @@ returns c = λ before stands.
     (omega arith)
     (ap (map string_bytes) c.in-Some.ensures.cases.0)
     (c.in-Some-of.ensures ∙ ap plugin_kind_named c.as_str.ensures.value)
-    c.in_ok-item.ensures.reads c.in_ok-item.ensures.lawful refl refl c.in_ok-push.ensures.items
+    c.in_ok-item.ensures.reads c.in_ok-item.ensures.valid refl refl c.in_ok-push.ensures.items

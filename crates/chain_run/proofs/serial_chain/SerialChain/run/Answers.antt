@@ -10,5 +10,5 @@ returns-clause-over g c =
     let begun = c.requires.runs.0 in
     let before = c.loop.invariant.runs begun c.requires.runs.1 in
     let goes = c.turns.ensures.runs begun before in
-    over-of begun.plan c.turns.new.self.core goes.runs.visits goes.fits.plan_is goes.fits.run.lawful goes.runs.by.ran.run goes.runs.by.numbers c.machine_laws.ensures.quiet
+    over-of begun.plan c.turns.new.self.core goes.runs.visits goes.fits.plan_is goes.fits.run.valid goes.runs.by.ran.run goes.runs.by.numbers c.machine_laws.ensures.quiet
     (subst (λ (p : CorePlan). (stage : ℕ) → stage ≤ suc p.plugins → IsIdleOrOver p (progress_of_core c.turns.new.self.core) stage) before.fits.plan_is (c.turns.ensures.idle c.loop-test.false))

@@ -7,7 +7,7 @@ use Rattle.chain_run.proofs.serial_chain.SerialChain.run.Given as goal
 
 abbrev pub invariant-loop : goal.invariant-loop
 invariant-loop g l = record {
-  runs : RunsOn (seeing g.S.Source.seen g.K.Sink.seen g.P.Plugin.rule g.P.Plugin.stands_for g.P.Plugin.steady) l.fn.self l.self;
+  runs : RunsOn (seeing g.S.Source.seen g.K.Sink.seen g.P.Plugin.rule g.P.Plugin.stands_for g.P.Plugin.preallocated) l.fn.self l.self;
   plan : l.self.core.plan ≡ l.fn.self.core.plan;
   next : l.next < length l.sizes;
 }

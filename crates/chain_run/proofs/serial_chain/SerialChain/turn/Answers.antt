@@ -11,41 +11,41 @@ still-open (Some x) no_ = cc
 pub look-news-requires : goal.look-news-requires
 look-news-requires g c =
     let old = c.args.self.now in
-    quiet-may (seeing g.S.Source.seen g.K.Sink.seen g.P.Plugin.rule g.P.Plugin.stands_for g.P.Plugin.steady) c.machine_laws.ensures c.requires.runs.0
+    quiet-may (seeing g.S.Source.seen g.K.Sink.seen g.P.Plugin.rule g.P.Plugin.stands_for g.P.Plugin.preallocated) c.machine_laws.ensures c.requires.runs.0
     old.core old.parts.items old.cells.items c.requires.runs.1 c.args.stage c.requires.is_stage (still-open _ (sym c.has_ended.ensures ∙ c.if-has_ended.false))
 
 pub work-work-requires-clause-written : goal.work-work-requires-clause-written
 work-work-requires-clause-written g c κs within =
     let old = c.args.self.now in
-    turn-written (seeing g.S.Source.seen g.K.Sink.seen g.P.Plugin.rule g.P.Plugin.stands_for g.P.Plugin.steady) c.machine_laws.ensures
+    turn-written (seeing g.S.Source.seen g.K.Sink.seen g.P.Plugin.rule g.P.Plugin.stands_for g.P.Plugin.preallocated) c.machine_laws.ensures
     old.core c.look-news.new.core old.parts.items old.cells.items c.args.stage c.look-news.result
     c.requires.runs c.requires.is_stage (still-open _ (sym c.has_ended.ensures ∙ c.if-has_ended.false)) c.look-news.ensures
 
 pub work-work-requires-clause-given : goal.work-work-requires-clause-given
 work-work-requires-clause-given g c κs within =
     let old = c.args.self.now in
-    turn-given (seeing g.S.Source.seen g.K.Sink.seen g.P.Plugin.rule g.P.Plugin.stands_for g.P.Plugin.steady) c.machine_laws.ensures
+    turn-given (seeing g.S.Source.seen g.K.Sink.seen g.P.Plugin.rule g.P.Plugin.stands_for g.P.Plugin.preallocated) c.machine_laws.ensures
     old.core c.look-news.new.core old.parts.items old.cells.items c.args.stage c.look-news.result
     c.requires.runs c.requires.is_stage (still-open _ (sym c.has_ended.ensures ∙ c.if-has_ended.false)) c.look-news.ensures
 
 pub work-work-requires-clause-taken : goal.work-work-requires-clause-taken
 work-work-requires-clause-taken g c κs within =
     let old = c.args.self.now in
-    turn-taken (seeing g.S.Source.seen g.K.Sink.seen g.P.Plugin.rule g.P.Plugin.stands_for g.P.Plugin.steady) c.machine_laws.ensures
+    turn-taken (seeing g.S.Source.seen g.K.Sink.seen g.P.Plugin.rule g.P.Plugin.stands_for g.P.Plugin.preallocated) c.machine_laws.ensures
     old.core c.look-news.new.core old.parts.items old.cells.items c.args.stage c.look-news.result
     c.requires.runs c.requires.is_stage (still-open _ (sym c.has_ended.ensures ∙ c.if-has_ended.false)) c.look-news.ensures
 
 pub work-work-requires-clause-stands : goal.work-work-requires-clause-stands
 work-work-requires-clause-stands g c κs within =
     let old = c.args.self.now in
-    turn-stands (seeing g.S.Source.seen g.K.Sink.seen g.P.Plugin.rule g.P.Plugin.stands_for g.P.Plugin.steady) c.machine_laws.ensures
+    turn-stands (seeing g.S.Source.seen g.K.Sink.seen g.P.Plugin.rule g.P.Plugin.stands_for g.P.Plugin.preallocated) c.machine_laws.ensures
     old.core c.look-news.new.core old.parts.items old.cells.items c.args.stage c.look-news.result
     c.requires.runs c.requires.is_stage (still-open _ (sym c.has_ended.ensures ∙ c.if-has_ended.false)) c.look-news.ensures
 
 pub visit-requires : goal.visit-requires
 visit-requires g c =
     let old = c.args.self.now in
-    turn-may (seeing g.S.Source.seen g.K.Sink.seen g.P.Plugin.rule g.P.Plugin.stands_for g.P.Plugin.steady) c.machine_laws.ensures
+    turn-may (seeing g.S.Source.seen g.K.Sink.seen g.P.Plugin.rule g.P.Plugin.stands_for g.P.Plugin.preallocated) c.machine_laws.ensures
     old.core c.look-news.new.core old.parts.items old.cells.items c.args.stage c.look-news.result
     c.requires.runs c.requires.is_stage (still-open _ (sym c.has_ended.ensures ∙ c.if-has_ended.false)) c.look-news.ensures
     c.work-work.new.self.core c.work-work.ensures.core c.work-work.new.self.parts.items c.work-work.new.self.cells.items c.work-work.result c.work-work.ensures.works
@@ -53,7 +53,7 @@ visit-requires g c =
 pub returns-then-work-gt0-clause-runs : goal.returns-then-work-gt0-clause-runs
 returns-then-work-gt0-clause-runs g c =
     let old = c.args.self.now in
-    turn-goes (seeing g.S.Source.seen g.K.Sink.seen g.P.Plugin.rule g.P.Plugin.stands_for g.P.Plugin.steady) c.machine_laws.ensures
+    turn-goes (seeing g.S.Source.seen g.K.Sink.seen g.P.Plugin.rule g.P.Plugin.stands_for g.P.Plugin.preallocated) c.machine_laws.ensures
     old.core c.look-news.new.core old.parts.items old.cells.items c.args.stage c.look-news.result
     c.requires.runs c.requires.is_stage (still-open _ (sym c.has_ended.ensures ∙ c.if-has_ended.false)) c.look-news.ensures
     c.work-work.new.self.core c.work-work.ensures.core c.work-work.new.self.parts.items c.work-work.new.self.cells.items c.work-work.result c.work-work.ensures.works
@@ -62,7 +62,7 @@ returns-then-work-gt0-clause-runs g c =
 pub returns-then-work-gt0-clause-moved : goal.returns-then-work-gt0-clause-moved
 returns-then-work-gt0-clause-moved g c = λ moved.
     let old = c.args.self.now in
-    turn-moves (seeing g.S.Source.seen g.K.Sink.seen g.P.Plugin.rule g.P.Plugin.stands_for g.P.Plugin.steady) c.machine_laws.ensures
+    turn-moves (seeing g.S.Source.seen g.K.Sink.seen g.P.Plugin.rule g.P.Plugin.stands_for g.P.Plugin.preallocated) c.machine_laws.ensures
     old.core c.look-news.new.core old.parts.items old.cells.items c.args.stage c.look-news.result
     c.requires.runs c.requires.is_stage (still-open _ (sym c.has_ended.ensures ∙ c.if-has_ended.false)) c.look-news.ensures
     c.work-work.new.self.core c.work-work.ensures.core c.work-work.new.self.parts.items c.work-work.new.self.cells.items c.work-work.result c.work-work.ensures.works
@@ -71,7 +71,7 @@ returns-then-work-gt0-clause-moved g c = λ moved.
 pub returns-else-work-gt0-clause-runs : goal.returns-else-work-gt0-clause-runs
 returns-else-work-gt0-clause-runs g c =
     let old = c.args.self.now in
-    turn-goes (seeing g.S.Source.seen g.K.Sink.seen g.P.Plugin.rule g.P.Plugin.stands_for g.P.Plugin.steady) c.machine_laws.ensures
+    turn-goes (seeing g.S.Source.seen g.K.Sink.seen g.P.Plugin.rule g.P.Plugin.stands_for g.P.Plugin.preallocated) c.machine_laws.ensures
     old.core c.look-news.new.core old.parts.items old.cells.items c.args.stage c.look-news.result
     c.requires.runs c.requires.is_stage (still-open _ (sym c.has_ended.ensures ∙ c.if-has_ended.false)) c.look-news.ensures
     c.work-work.new.self.core c.work-work.ensures.core c.work-work.new.self.parts.items c.work-work.new.self.cells.items c.work-work.result c.work-work.ensures.works
@@ -80,7 +80,7 @@ returns-else-work-gt0-clause-runs g c =
 pub returns-else-work-gt0-clause-moved : goal.returns-else-work-gt0-clause-moved
 returns-else-work-gt0-clause-moved g c = λ moved.
     let old = c.args.self.now in
-    turn-moves (seeing g.S.Source.seen g.K.Sink.seen g.P.Plugin.rule g.P.Plugin.stands_for g.P.Plugin.steady) c.machine_laws.ensures
+    turn-moves (seeing g.S.Source.seen g.K.Sink.seen g.P.Plugin.rule g.P.Plugin.stands_for g.P.Plugin.preallocated) c.machine_laws.ensures
     old.core c.look-news.new.core old.parts.items old.cells.items c.args.stage c.look-news.result
     c.requires.runs c.requires.is_stage (still-open _ (sym c.has_ended.ensures ∙ c.if-has_ended.false)) c.look-news.ensures
     c.work-work.new.self.core c.work-work.ensures.core c.work-work.new.self.parts.items c.work-work.new.self.cells.items c.work-work.result c.work-work.ensures.works
@@ -89,7 +89,7 @@ returns-else-work-gt0-clause-moved g c = λ moved.
 pub returns-else-work-gt0-clause-rests : goal.returns-else-work-gt0-clause-rests
 returns-else-work-gt0-clause-rests g c = λ rests.
     let old = c.args.self.now in
-    turn-rests (seeing g.S.Source.seen g.K.Sink.seen g.P.Plugin.rule g.P.Plugin.stands_for g.P.Plugin.steady) c.machine_laws.ensures
+    turn-rests (seeing g.S.Source.seen g.K.Sink.seen g.P.Plugin.rule g.P.Plugin.stands_for g.P.Plugin.preallocated) c.machine_laws.ensures
     old.core c.look-news.new.core old.parts.items old.cells.items c.args.stage c.look-news.result
     c.requires.runs c.requires.is_stage (still-open _ (sym c.has_ended.ensures ∙ c.if-has_ended.false)) c.look-news.ensures
     c.work-work.new.self.core c.work-work.ensures.core c.work-work.new.self.parts.items c.work-work.new.self.cells.items c.work-work.result c.work-work.ensures.works
@@ -98,7 +98,7 @@ returns-else-work-gt0-clause-rests g c = λ rests.
 pub returns-else-work-gt0-clause-idle : goal.returns-else-work-gt0-clause-idle
 returns-else-work-gt0-clause-idle g c = λ rests open_.
     let old = c.args.self.now in
-    turn-idle (seeing g.S.Source.seen g.K.Sink.seen g.P.Plugin.rule g.P.Plugin.stands_for g.P.Plugin.steady) c.machine_laws.ensures
+    turn-idle (seeing g.S.Source.seen g.K.Sink.seen g.P.Plugin.rule g.P.Plugin.stands_for g.P.Plugin.preallocated) c.machine_laws.ensures
     old.core c.look-news.new.core old.parts.items old.cells.items c.args.stage c.look-news.result
     c.requires.runs c.requires.is_stage (still-open _ (sym c.has_ended.ensures ∙ c.if-has_ended.false)) c.look-news.ensures
     c.work-work.new.self.core c.work-work.ensures.core c.work-work.new.self.parts.items c.work-work.new.self.cells.items c.work-work.result c.work-work.ensures.works

@@ -7,7 +7,7 @@ use Rattle.chain_run.proofs.serial_chain.SerialChain.turns.Given as goal
 
 abbrev pub invariant-loop-stage : goal.invariant-loop-stage
 invariant-loop-stage g l = record {
-  runs : RunsOn (seeing g.S.Source.seen g.K.Sink.seen g.P.Plugin.rule g.P.Plugin.stands_for g.P.Plugin.steady) l.fn.self l.self;
+  runs : RunsOn (seeing g.S.Source.seen g.K.Sink.seen g.P.Plugin.rule g.P.Plugin.stands_for g.P.Plugin.preallocated) l.fn.self l.self;
   plan : l.self.core.plan ≡ l.fn.self.core.plan;
   parts : length l.self.parts.items ≡ length l.fn.self.parts.items;
   next : l.next < length l.sizes;

@@ -2,7 +2,7 @@ use Rattle.std.proofs.Common.{Bool, false, ◌&&◌, ap, sym, ◌∙◌, arith}
 use Rattle.std.proofs.Math.Bool.{and-false}
 use Rattle.ts_packet.specs.Header.{pid_of}
 use Rattle.ts_packet.specs.Pcr.{has_pcr_of}
-use Rattle.plug_conf.specs.Selection.{is_selected}
+use Rattle.plugin_options.specs.Selection.{is_selected}
 use Rattle.plug_pcr.specs.PcrverifyConfOf.{conf_of}
 use Rattle.plug_pcr.proofs.Faulting.{pcr_none}
 use Rattle.plug_pcr.proofs.Verifying.{verifies_other}

@@ -1,8 +1,8 @@
 use Rattle.std.proofs.Common.{refl, sym, ◌∙◌, ap, Some, subst}
 use Rattle.ts_demux.specs.TablesOn.{Completes, packets_on}
-use Rattle.plug_service.specs.Fates.{edits_pmt}
+use Rattle.plug_service.specs.Actions.{edits_pmt}
 use Rattle.plug_service.specs.ServiceRule.{is_edited, made_by}
-use Rattle.plug_service.specs.declared.fate.Fate.TheVariants.{EditPat, EditSdt, EditPmt, Pass, Drop}
+use Rattle.plug_service.specs.declared.action.Action.TheVariants.{EditPat, EditSdt, EditPmt, Pass, Drop}
 use Rattle.plug_service.proofs.EditLemmas.{editors-next, on_zero}
 use Rattle.plug_service.proofs.editors.Editors.edit.Goals as goal
 

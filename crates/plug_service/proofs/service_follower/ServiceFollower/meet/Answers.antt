@@ -1,18 +1,18 @@
 use Rattle.std.proofs.Common.{◌++◌, ◌∷◌, [], ap, ap₂, ◌∙◌}
 use Rattle.ts_packet.specs.Header.{pid_of}
 use Rattle.plug_psi.specs.InForce.{pat_of, pmt_of}
-use Rattle.plug_service.specs.Fates.{fate_of}
-use Rattle.plug_service.proofs.FateLemmas.{fate-after}
+use Rattle.plug_service.specs.Actions.{action_of}
+use Rattle.plug_service.proofs.ActionLemmas.{action-after}
 use Rattle.plug_service.proofs.service_follower.ServiceFollower.meet.Goals as goal
 
 pub returns-clause-tells : goal.returns-clause-tells
 returns-clause-tells c = λ way service met h.
     let after = met ++ c.args.packet.now ∷ [] in
-    c.fate.ensures.tells (pat_of after) (λ other. pmt_of other after)
+    c.action.ensures.tells (pat_of after) (λ other. pmt_of other after)
     (c.in_ok-renew_where.ensures.stands met c.args.packet.now (c.in_ok-came.ensures.stands met h.forced) (λ none. c.in_ok-came.ensures.same none met h.forced) h.fated)
-    ∙ ap₂ (λ w s. fate_of w s (pat_of after) (λ other. pmt_of other after) c.pid.result) (c.in_ok-renew_where.ensures.way ∙ h.same_way) (c.in_ok-renew_where.ensures.service ∙ h.same_service)
-    ∙ ap (fate_of way service (pat_of after) (λ other. pmt_of other after)) c.pid.ensures.field
-    ∙ fate-after way service after (pid_of c.args.packet.now)
+    ∙ ap₂ (λ w s. action_of w s (pat_of after) (λ other. pmt_of other after) c.pid.result) (c.in_ok-renew_where.ensures.way ∙ h.same_way) (c.in_ok-renew_where.ensures.service ∙ h.same_service)
+    ∙ ap (action_of way service (pat_of after) (λ other. pmt_of other after)) c.pid.ensures.field
+    ∙ action-after way service after (pid_of c.args.packet.now)
 
 pub returns-clause-pats : goal.returns-clause-pats
 returns-clause-pats c = λ way service met h at. c.in_ok-came.ensures.pats met h.forced at

@@ -1,6 +1,6 @@
 use Rattle.std.proofs.Common.{[], IfOk, sym, subst}
 use Rattle.plug_service.specs.EditorsState.{EditorsStand}
-use Rattle.plug_service.specs.FatesState.{FollowsService}
+use Rattle.plug_service.specs.ActionsState.{FollowsService}
 use Rattle.plug_service.proofs.service_steps.ServiceSteps.new.Goals as goal
 
 pub returns-clause-stands : goal.returns-clause-stands

@@ -1,5 +1,5 @@
 use Rattle.std.proofs.Common.{ℕ, length, ap, sym, ◌∙◌, refl, arith}
-use Rattle.plug_conf.specs.Selection.{is_selected}
+use Rattle.plugin_options.specs.Selection.{is_selected}
 use Rattle.plug_watch.specs.declared.note.Note.{Note}
 use Rattle.plug_watch.specs.CountConfOf.{conf_of}
 use Rattle.plug_watch.proofs.CountStates.{counts_other, counts_live, not_full}
@@ -21,4 +21,4 @@ returns-in-Ok-clause-meets c = λ history mark w count.
 pub returns-in-Err-clause-room : goal.returns-in-Err-clause-room
 returns-in-Err-clause-room c = λ room said.
     not_full (conf_of c.args.self.now) _ _ room.history room.mark room.holds c.args.self.now.notes.capacity room.room c.args.at
-    c.args.self.now.all room.is_steady room.count room.within (c.in-Err.ensures.full refl)
+    c.args.self.now.all room.is_preallocated room.count room.within (c.in-Err.ensures.full refl)

@@ -6,17 +6,17 @@ use Rattle.chain_model.specs.Apply.{StageList, became, apply_after, refused, sto
 use Rattle.chain_model.specs.Joint.{agreement_of}
 use Rattle.chain_model.proofs.AgreementLaws.{agreement_of-within}
 use Rattle.plugin_trait.specs.Driving.{AgreesNow}
-use Rattle.plugin_trait.specs.Steps.{StepTells, HasRoom, IsSteadyFor}
-use Rattle.plugin_trait.proofs.Going.{half_ends_after, half_ends_before, half_goes_on, half_through, left_as_it_was, met-more, met_goes_on, tells_goes_on, read_at, same_behind}
+use Rattle.plugin_trait.specs.Steps.{StepTells, HasRoom, IsPreallocatedFor}
+use Rattle.plugin_trait.proofs.Going.{half_ends_after, half_ends_before, half_goes_on, half_through, left_as_it_was, met-more, met_goes_on, tells_goes_on, read_at, same_after}
 use Rattle.plugin_trait.proofs.FarLemmas.{far_as_before, far_goes_on, far_ends_after}
 use Rattle.plugin_trait.proofs.AgreeingLemmas.{agreed_step, newly_agreed-within}
 use Rattle.plugin_trait.proofs.plugin.Plugin.steps.Goals as goal
 
 -- where room was made for more positions than this one, there is room for it
-room_at : (steady : Option ℕ) (stands : List Cell → ℕ → Type 0) (history : List Cell) (mark at end : ℕ) → stands history mark → length history ≡ at → at < end → IsSteadyFor steady (end - mark) → HasRoom steady stands at
+room_at : (preallocated : Option ℕ) (stands : List Cell → ℕ → Type 0) (history : List Cell) (mark at end : ℕ) → stands history mark → length history ≡ at → at < end → IsPreallocatedFor preallocated (end - mark) → HasRoom preallocated stands at
 room_at None stands history mark at end holds count lt is = absurd is
 room_at (Some room) stands history mark at end holds count lt is =
-    record { room = room; is_steady = refl; history = history; mark = mark; holds = holds; count = count; within = omega arith }
+    record { room = room; is_preallocated = refl; history = history; mark = mark; holds = holds; count = count; within = omega arith }
 
 -- so many cells were met where the loop stands
 met_count : (history given : List Cell) (i at : ℕ) → length history ≡ at → i < length given → length (history ++ take i given) ≡ at + i
@@ -29,7 +29,7 @@ loop-i-init g c = record {
   far = λ history mark holds count. refl;
   rest = refl;
   same_rule = refl;
-  same_steady = refl;
+  same_preallocated = refl;
   same_silent = refl;
   agreed = λ history mark holds count notes. record {
     tells = sym (newly_agreed-within c.args.at (agreement_of (g.Self.Plugin.rule c.args.self.now) (history ++ []))
@@ -77,9 +77,9 @@ loop-i-preserved g c =
           let goes = subst (λ (r : PluginRule). StepTells r before cell c.meet.result c.meet.new.cell) c.loop-i.invariant.same_rule told in
           far_goes_on rule history cells c.loop-i.cells i cell c.meet.new.cell c.loop-i-test.true (omega arith) is
           (c.loop-i.invariant.far history mark holds count) (tells_goes_on rule before cell c.meet.new.cell c.meet.result c.in-Pass.is goes);
-      rest = same_behind _ _ i c.meet.new.cell c.loop-i.invariant.rest;
+      rest = same_after _ _ i c.meet.new.cell c.loop-i.invariant.rest;
       same_rule = c.meet.ensures.same_rule ∙ c.loop-i.invariant.same_rule;
-      same_steady = c.meet.ensures.same_steady ∙ c.loop-i.invariant.same_steady;
+      same_preallocated = c.meet.ensures.same_preallocated ∙ c.loop-i.invariant.same_preallocated;
       same_silent = c.meet.ensures.same_silent ∙ c.loop-i.invariant.same_silent;
       agreed = λ history mark holds count notes.
           let before = history ++ take i cells in
@@ -136,9 +136,9 @@ returns-in-Last-clause-far g c = λ history mark holds count.
     let before = history ++ take i cells in
     let n = met_count history cells i c.args.at count c.loop-i-test.true in
     let told = c.in-Last.ensures.tells before mark (c.loop-i.invariant.met history mark holds count) n in
-    let fate = ap (λ (r : PluginRule). became r before cell) (sym c.loop-i.invariant.same_rule) ∙ told in
+    let action = ap (λ (r : PluginRule). became r before cell) (sym c.loop-i.invariant.same_rule) ∙ told in
     far_ends_after rule history cells c.loop-i.cells i cell c.meet.new.cell c.loop-i-test.true (omega arith) is
-    (c.loop-i.invariant.far history mark holds count) fate
+    (c.loop-i.invariant.far history mark holds count) action
 
 pub returns-in-NoMemory-clause-room : goal.returns-in-NoMemory-clause-room
 returns-in-NoMemory-clause-room g c = λ has.
@@ -146,9 +146,9 @@ returns-in-NoMemory-clause-room g c = λ has.
     let i : ℕ = c.loop-i.i in
     let stands = c.loop-i.invariant.met has.history has.mark has.holds has.count in
     let n = met_count has.history cells i c.args.at has.count c.loop-i-test.true in
-    let steady = subst (λ (s : Option ℕ). IsSteadyFor s (c.args.at + length cells - has.mark)) (sym c.loop-i.invariant.same_steady) has.within in
-    absurd (c.meet.ensures.room (room_at (g.Self.Plugin.steady c.loop-i.self) (g.Self.Plugin.stands_for c.loop-i.self) (has.history ++ take i cells) has.mark (c.args.at + i)
-    (c.args.at + length cells) stands n (omega (arith, c.loop-i-test.true)) steady) c.in-NoMemory.is)
+    let preallocated = subst (λ (s : Option ℕ). IsPreallocatedFor s (c.args.at + length cells - has.mark)) (sym c.loop-i.invariant.same_preallocated) has.within in
+    absurd (c.meet.ensures.room (room_at (g.Self.Plugin.preallocated c.loop-i.self) (g.Self.Plugin.stands_for c.loop-i.self) (has.history ++ take i cells) has.mark (c.args.at + i)
+    (c.args.at + length cells) stands n (omega (arith, c.loop-i-test.true)) preallocated) c.in-NoMemory.is)
 
 pub returns-in-Last-clause-makes : goal.returns-in-Last-clause-makes
 returns-in-Last-clause-makes g c = λ history mark holds count.
@@ -160,9 +160,9 @@ returns-in-Last-clause-makes g c = λ history mark holds count.
     let before = history ++ take i cells in
     let n = met_count history cells i c.args.at count c.loop-i-test.true in
     let told = c.in-Last.ensures.tells before mark (c.loop-i.invariant.met history mark holds count) n in
-    let fate = ap (λ (r : PluginRule). became r before cell) (sym c.loop-i.invariant.same_rule) ∙ told in
+    let action = ap (λ (r : PluginRule). became r before cell) (sym c.loop-i.invariant.same_rule) ∙ told in
     half_ends_after rule history cells c.loop-i.cells i cell (apply_after rule history cells) c.loop-i-test.true is
-    (c.loop-i.invariant.made history mark holds count) c.meet.new.cell (omega arith) fate
+    (c.loop-i.invariant.made history mark holds count) c.meet.new.cell (omega arith) action
 
 pub returns-in-Stop-clause-makes : goal.returns-in-Stop-clause-makes
 returns-in-Stop-clause-makes g c = λ history mark holds count.
@@ -174,9 +174,9 @@ returns-in-Stop-clause-makes g c = λ history mark holds count.
     let before = history ++ take i cells in
     let n = met_count history cells i c.args.at count c.loop-i-test.true in
     let told = c.in-Stop.ensures.tells before mark (c.loop-i.invariant.met history mark holds count) n in
-    let fate = ap (λ (r : PluginRule). became r before cell) (sym c.loop-i.invariant.same_rule) ∙ told.0 in
+    let action = ap (λ (r : PluginRule). became r before cell) (sym c.loop-i.invariant.same_rule) ∙ told.0 in
     half_ends_before rule history cells c.loop-i.cells i cell (apply_after rule history cells) c.loop-i-test.true is
-    (c.loop-i.invariant.made history mark holds count) stopped c.meet.new.cell fate
+    (c.loop-i.invariant.made history mark holds count) stopped c.meet.new.cell action
 
 pub returns-in-Refuse-clause-makes : goal.returns-in-Refuse-clause-makes
 returns-in-Refuse-clause-makes g c = λ history mark holds count.
@@ -188,9 +188,9 @@ returns-in-Refuse-clause-makes g c = λ history mark holds count.
     let before = history ++ take i cells in
     let n = met_count history cells i c.args.at count c.loop-i-test.true in
     let told = c.in-Refuse.ensures.tells before mark (c.loop-i.invariant.met history mark holds count) n in
-    let fate = ap (λ (r : PluginRule). became r before cell) (sym c.loop-i.invariant.same_rule) ∙ told.0 in
+    let action = ap (λ (r : PluginRule). became r before cell) (sym c.loop-i.invariant.same_rule) ∙ told.0 in
     half_ends_before rule history cells c.loop-i.cells i cell (apply_after rule history cells) c.loop-i-test.true is
-    (c.loop-i.invariant.made history mark holds count) (refused c.in-Refuse.reason) c.meet.new.cell fate
+    (c.loop-i.invariant.made history mark holds count) (refused c.in-Refuse.reason) c.meet.new.cell action
 
 pub returns-in-Stop-clause-rest : goal.returns-in-Stop-clause-rest
 returns-in-Stop-clause-rest g c =

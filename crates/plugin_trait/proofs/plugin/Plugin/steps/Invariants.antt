@@ -18,7 +18,7 @@ invariant-loop-i g l = record {
       → apply_after (g.Self.Plugin.rule l.fn.self) history (take l.i l.fn.cells) ≡ made_so_far (take l.i l.cells) Through;
   rest : drop l.i l.cells ≡ drop l.i l.fn.cells;
   same_rule : g.Self.Plugin.rule l.self ≡ g.Self.Plugin.rule l.fn.self;
-  same_steady : g.Self.Plugin.steady l.self ≡ g.Self.Plugin.steady l.fn.self;
+  same_preallocated : g.Self.Plugin.preallocated l.self ≡ g.Self.Plugin.preallocated l.fn.self;
   same_silent : g.Self.Plugin.silent l.self ≡ g.Self.Plugin.silent l.fn.self;
   agreed : (history : List Cell) (mark : ℕ) → g.Self.Plugin.stands_for l.fn.self history mark → length history ≡ l.at
       → l.fn.noted ≡ is_some (agreement_of (g.Self.Plugin.rule l.fn.self) history)

@@ -3,7 +3,7 @@ use Rattle.std.proofs.lemmas.List.{take-set, take_more_set, length-take-le, drop
 use Rattle.ts_packet.specs.declared.cell.Cell.{Cell}
 use Rattle.stage_run.specs.InputStands.{IsOpen}
 use Rattle.stage_run.specs.InputSteps.{InputGoes, with_more, cell_put}
-use Rattle.stage_run.proofs.CellLemmas.{same_behind, take-written, drop-written, length-written}
+use Rattle.stage_run.proofs.CellLemmas.{same_after, take-written, drop-written, length-written}
 use Rattle.stage_run.proofs.InputLemmas.{InputGoes-trans, InputGoes-stop, IsFilled-over, None-from_is_some}
 use Rattle.stage_run.proofs.input_stage.InputStage.fill.Goals as goal
 
@@ -47,7 +47,7 @@ loop-done-preserved g c =
       packets = let before = c.loop-done.invariant.packets in omega (arith, c.next_cell-over.ensures.packets, c.put_in_hand-done.ensures.packets);
       rest = drop-written (done + 1) behind count ys part all c.put_in_hand-done.ensures.rest
           ∙ sym (drop-drop count (done + 1) ys)
-          ∙ ap (drop count) (same_behind c.loop-done.cells c.args.cells.now done cell c.loop-done.invariant.rest)
+          ∙ ap (drop count) (same_after c.loop-done.cells c.args.cells.now done cell c.loop-done.invariant.rest)
           ∙ drop-drop count (done + 1) c.args.cells.now;
       goes = λ lists holds.
           let one = c.loop-done.invariant.goes lists holds in

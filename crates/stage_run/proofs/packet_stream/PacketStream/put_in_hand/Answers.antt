@@ -2,7 +2,7 @@ use Rattle.std.proofs.Common.{◌≡◌, ℕ, ◌+◌, List, ◌++◌, length, t
 use Rattle.std.proofs.lemmas.List.{take_more_set}
 use Rattle.ts_packet.specs.declared.cell.Cell.{Cell}
 use Rattle.stage_run.specs.Feeds.{StreamPutsAll}
-use Rattle.stage_run.proofs.CellLemmas.{same_behind}
+use Rattle.stage_run.proofs.CellLemmas.{same_after}
 use Rattle.stage_run.proofs.StreamLemmas.{StreamPutsAll-none, StreamPutsAll-push}
 use Rattle.stage_run.proofs.packet_stream.PacketStream.put_in_hand.Goals as goal
 
@@ -22,7 +22,7 @@ loop-done-preserved g c =
     record {
       room = c.next_packet.ensures.room;
       packets = c.next_packet.ensures.packets ∙ ap (λ (n : ℕ). n + 1) c.loop-done.invariant.packets ∙ omega arith;
-      rest = same_behind c.loop-done.cells c.args.cells.now done c.next_packet.new.cell c.loop-done.invariant.rest;
+      rest = same_after c.loop-done.cells c.args.cells.now done c.next_packet.new.cell c.loop-done.invariant.rest;
       puts = λ first read rows stands.
           let puts = c.loop-done.invariant.puts first read rows stands in
           subst (λ (l : List Cell). StreamPutsAll seen c.next_packet.new.self first read rows l)

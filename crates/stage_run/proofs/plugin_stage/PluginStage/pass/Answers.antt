@@ -5,7 +5,7 @@ use Rattle.chain_model.specs.PluginRule.{PluginRule}
 use Rattle.chain_model.specs.Apply.{apply_after}
 use Rattle.chain_model.specs.Joint.{agreement_of}
 use Rattle.chain_model.proofs.AgreementLaws.{agreement_of-within}
-use Rattle.plugin_trait.specs.Steps.{IsSteadyFor}
+use Rattle.plugin_trait.specs.Steps.{IsPreallocatedFor}
 use Rattle.plugin_trait.specs.PlacedLines.{placed_after, placed_between}
 use Rattle.plugin_trait.specs.Driving.{Makes, TellsAgreement, made_so_far}
 use Rattle.plugin_trait.specs.declared.line.Line.{Line}
@@ -41,8 +41,8 @@ lines_below rule new_rule history more mark written low high same before after w
     ∙ ap (λ (r : PluginRule). placed_after r [] (take written (history ++ more))) (sym same))))
 
 -- a plugin that made room notes its mark
-failed-unsteady : {E : Type 0} (steady : Option ℕ) (result : Result Unit E) (count : ℕ) (err : Bool) → (IsSome steady → IsOk result)
-    → is_ok result ≡ not err → err ≡ true → IsSteadyFor steady count → ⊥
+failed-unsteady : {E : Type 0} (preallocated : Option ℕ) (result : Result Unit E) (count : ℕ) (err : Bool) → (IsSome preallocated → IsOk result)
+    → is_ok result ≡ not err → err ≡ true → IsPreallocatedFor preallocated count → ⊥
 failed-unsteady None result count err room is none has = has
 failed-unsteady (Some n) result count true room is none has = let e : is_ok result ≡ true = room refl in cc
 failed-unsteady (Some n) result count false room is none has = cc
@@ -58,7 +58,7 @@ returns-then-is_err-clause-agreed g c = λ history mark allows notes.
 
 pub returns-then-is_err-clause-room : goal.returns-then-is_err-clause-room
 returns-then-is_err-clause-room g c = λ has.
-    absurd (failed-unsteady (g.P.Plugin.steady c.args.self.now.heard.plugin) c.note.result (c.args.at + length c.args.cells.now - c.args.written) c.is_err.result
+    absurd (failed-unsteady (g.P.Plugin.preallocated c.args.self.now.heard.plugin) c.note.result (c.args.at + length c.args.cells.now - c.args.written) c.is_err.result
     c.note.ensures.room c.is_err.ensures.negation c.if-is_err.true has)
 
 pub returns-then-is_err-clause-met : goal.returns-then-is_err-clause-met
@@ -128,5 +128,5 @@ returns-clause-room g c = λ has.
       mark = c.args.written;
       holds = gives.0;
       count = may.allows.count;
-      within = subst (λ (s : Option ℕ). IsSteadyFor s (c.args.at + length c.args.cells.now - c.args.written)) (sym c.note.ensures.same_steady) has;
+      within = subst (λ (s : Option ℕ). IsPreallocatedFor s (c.args.at + length c.args.cells.now - c.args.written)) (sym c.note.ensures.same_preallocated) has;
     })

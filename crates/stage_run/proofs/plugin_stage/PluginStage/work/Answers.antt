@@ -1,7 +1,7 @@
 use Rattle.std.proofs.Common.{◌≡◌, ℕ, ◌+◌, ◌-◌, ◌≤◌, Option, List, [], ◌++◌, length, take, None, Some, refl, sym, ap, subst, arith, ◌∙◌, length-append, length-take, append-nil, add-zero, is_some}
 use Rattle.std.proofs.lemmas.Bool.{eqb-true}
 use Rattle.plugin_trait.specs.declared.list_end.ListEnd.TheVariants.{Through}
-use Rattle.plugin_trait.specs.Steps.{IsSteadyFor}
+use Rattle.plugin_trait.specs.Steps.{IsPreallocatedFor}
 use Rattle.plugin_trait.specs.HeardStands.{HeardStands}
 use Rattle.chain_model.specs.PluginRule.{PluginRule}
 use Rattle.chain_core.specs.declared.stage_end.StageEnd.{StageEnd}
@@ -22,7 +22,7 @@ use Rattle.stage_run.specs.PluginSteps.{Allows, told_by}
 use Rattle.stage_run.specs.PluginStands.{PluginStands}
 use Rattle.stage_run.specs.Works.{Works, PluginWorks, DoesAll}
 use Rattle.stage_run.proofs.WorkLemmas.{plain-stage, followed-memory}
-use Rattle.stage_run.proofs.PluginWorking.{plugin_works, newly_agreed-Some, through_all, no_memory_told, steady_less, FollowsNews-followed, FollowsNews-told}
+use Rattle.stage_run.proofs.PluginWorking.{plugin_works, newly_agreed-Some, through_all, no_memory_told, preallocated_less, FollowsNews-followed, FollowsNews-told}
 use Rattle.stage_run.proofs.plugin_stage.PluginStage.work.Goals as goal
 
 -- lists after which a plugin's stage may work allow its mark
@@ -62,8 +62,8 @@ returns-clause-work g c =
       memory = λ told.
           let ended : told_by stepped.end news (c.args.at + stepped.count) ≡ Some NoMemory = sym c.told.ensures ∙ told in
           let end : stepped.end ≡ window.NoMemory = no_memory_told stepped.end news (c.args.at + stepped.count) ended in
-          λ steady. c.pass-stepped.ensures.room (steady_less (g.P.Plugin.steady old.heard.plugin) (news.taken - news.written)
-          (c.args.at + length cells - news.written) (let a = c.requires.in_hand in omega arith) steady) end;
+          λ preallocated. c.pass-stepped.ensures.room (preallocated_less (g.P.Plugin.preallocated old.heard.plugin) (news.taken - news.written)
+          (c.args.at + length cells - news.written) (let a = c.requires.in_hand in omega arith) preallocated) end;
       works = λ lists may'.
           let fine = allowed rule stands old lists c.args.at news.written may' c.requires.written in
           let met = c.pass-stepped.ensures.met lists.met lists.mark fine in
@@ -84,7 +84,7 @@ returns-then-is_empty-clause-work g c =
     let none : cells ≡ [] = nil_from_length cells (eqb-true (length cells) 0 (sym c.is_empty.ensures ∙ c.if-is_empty.true)) in
     let told : c.ending.result ≡ plain_work 0 (followed news (c.args.at + 0)) =
     c.ending.ensures ∙ ap (plain_work 0) c.followed.ensures ∙ ap (λ (n : ℕ). plain_work 0 (followed news n)) (sym (add-zero c.args.at)) in
-    plain-stage (PluginStands rule stands old) (PluginStands rule stands old) (λ ahead. IsSteadyFor (g.P.Plugin.steady old.heard.plugin) ahead → ⊥) DoesAll
+    plain-stage (PluginStands rule stands old) (PluginStands rule stands old) (λ ahead. IsPreallocatedFor (g.P.Plugin.preallocated old.heard.plugin) ahead → ⊥) DoesAll
     (λ w before. PluginWorks (rule old.heard.plugin) before news cells cells w)
     c.args.at news cells cells c.ending.result 0 (followed news (c.args.at + 0)) told (omega arith) refl
     (λ e. omega (arith, ap (λ (l : List Cell). length l) none)) (FollowsNews-followed news (c.args.at + 0)) (followed-memory news (c.args.at + 0))

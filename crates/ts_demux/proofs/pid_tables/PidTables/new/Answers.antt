@@ -1,4 +1,4 @@
-use Rattle.ts_demux.proofs.TablesBehind.{holds_new}
+use Rattle.ts_demux.proofs.TablesAfter.{holds_new}
 use Rattle.ts_demux.proofs.pid_tables.PidTables.new.Goals as goal
 
 pub returns : goal.returns

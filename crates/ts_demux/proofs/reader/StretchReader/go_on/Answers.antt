@@ -1,4 +1,4 @@
-use Rattle.ts_demux.proofs.Little.{little-empty, little-open, sections_behind-ended}
+use Rattle.ts_demux.proofs.Little.{little-empty, little-open, sections_after-ended}
 use Rattle.ts_demux.proofs.reader.StretchReader.go_on.Goals as goal
 
 pub returns-then-not-self-clause-little : goal.returns-then-not-self-clause-little
@@ -9,7 +9,7 @@ returns-then-branch-clause-little c = little-empty c.close.new.self c.close.ensu
 
 pub returns-then-branch-clause-sections : goal.returns-then-branch-clause-sections
 returns-then-branch-clause-sections c =
-    λ more. sections_behind-ended c.args.waiting.now.items c.cut_off.new.waiting.items c.args.self.now.is_open c.close.new.self.is_open
+    λ more. sections_after-ended c.args.waiting.now.items c.cut_off.new.waiting.items c.args.self.now.is_open c.close.new.self.is_open
     c.args.self.now.unfinished.items c.args.bytes.now c.extend_from_slice.new.self.items c.close.new.self.unfinished.items more
     c.if-not-self.false c.close.ensures.closed c.in_ok-extend_from_slice.ensures.items
     (c.in_ok-cut_off.ensures.over c.if-branch.true more)

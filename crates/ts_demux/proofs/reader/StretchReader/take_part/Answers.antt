@@ -1,6 +1,6 @@
 use Rattle.std.proofs.Common.{◌≡◌, List, ℕ, ◌++◌, take, drop, sym, ◌∙◌, ap, arith}
 use Rattle.ts_demux.proofs.Little.{little-empty}
-use Rattle.ts_demux.proofs.Taking.{takes-repeat, takes-plain, takes-unit, takes-lawless, rest-after}
+use Rattle.ts_demux.proofs.Taking.{takes-repeat, takes-plain, takes-unit, takes-invalid, rest-after}
 use Rattle.ts_demux.specs.Part.{Part, pointer_of}
 use Rattle.ts_demux.specs.SectionsOfParts.{sections_in}
 use Rattle.ts_demux.specs.Reader.{sections_with}
@@ -24,8 +24,8 @@ returns-in_default-clause-rest c = rest-after c.close.new.self c.args.counter (c
 pub returns-in_default-clause-sections : goal.returns-in_default-clause-sections
 returns-in_default-clause-sections c =
     let p : Part = record { counter = c.args.counter; unit_start = c.args.unit_start; payload = c.args.payload.now } in
-    takes-lawless c.args.self.now c.end_at_jump.new.self c.close.new.self p c.args.waiting.now.items
-    (sym c.repeats.ensures ∙ c.if-repeats.false) c.requires.rest.little.not_whole c.end_at_jump.ensures c.if-not-unit_start.false c.in_default.ensures.lawless c.close.ensures.last c.close.ensures.closed
+    takes-invalid c.args.self.now c.end_at_jump.new.self c.close.new.self p c.args.waiting.now.items
+    (sym c.repeats.ensures ∙ c.if-repeats.false) c.requires.rest.little.not_whole c.end_at_jump.ensures c.if-not-unit_start.false c.in_default.ensures.invalid c.close.ensures.last c.close.ensures.closed
 
 pub returns-clause-sections : goal.returns-clause-sections
 returns-clause-sections c =
@@ -34,7 +34,7 @@ returns-clause-sections c =
     let first : c.in-Some.before.now ≡ take (pointer_of p) body = c.in-Some.ensures.before in
     let next : c.in-Some.after.now ≡ drop (pointer_of p) body = c.in-Some.ensures.after in
     takes-unit c.args.self.now c.end_at_jump.new.self c.go_on-2.new.self c.begin.new.self p c.args.waiting.now.items c.go_on-2.new.waiting.items c.begin.new.waiting.items
-    (sym c.repeats.ensures ∙ c.if-repeats.false) c.requires.rest.little.not_whole c.end_at_jump.ensures c.if-not-unit_start.false c.in-Some.ensures.lawful
+    (sym c.repeats.ensures ∙ c.if-repeats.false) c.requires.rest.little.not_whole c.end_at_jump.ensures c.if-not-unit_start.false c.in-Some.ensures.valid
     (c.in_ok-begin.ensures.last ∙ c.in_ok-go_on-2.ensures.last) c.in_ok-go_on-2.ensures.little.not_whole
     (λ more. ap (λ t. c.args.waiting.now.items ++ sections_with c.end_at_jump.new.self (t ++ more)) (sym first) ∙ c.in_ok-go_on-2.ensures.sections more)
     (λ more. ap (λ t. c.go_on-2.new.waiting.items ++ sections_in (t ++ more)) (sym next) ∙ c.in_ok-begin.ensures.sections more)

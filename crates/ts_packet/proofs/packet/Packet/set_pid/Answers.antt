@@ -1,7 +1,7 @@
 -- The five bits of the first byte and the eight of the second are the 13 bits of the PID.
 use Rattle.std.proofs.Common.{◌≡◌, ◌+◌, ◌*◌, ◌/◌, ◌%◌, bit_and, arith}
 use Rattle.std.proofs.lemmas.Nat.{and_mask}
-use Rattle.bit_rows.proofs.Fields.{SetsField-join}
+use Rattle.ts_bit_rows.proofs.Fields.{SetsField-join}
 use Rattle.ts_packet.proofs.packet.Packet.set_pid.Goals as goal
 
 pub returns-clause-field : goal.returns-clause-field

@@ -1,6 +1,6 @@
 -- A byte that is written is a field of eight bits.
 use Rattle.std.proofs.Common.{◌<◌, length, arith}
-use Rattle.bit_rows.proofs.Fields.{SetsField-whole_byte}
+use Rattle.ts_bit_rows.proofs.Fields.{SetsField-whole_byte}
 use Rattle.ts_packet.proofs.packet.Packet.write_byte.Goals as goal
 
 pub returns-clause-field : goal.returns-clause-field

@@ -1,6 +1,6 @@
 use Rattle.std.proofs.Common.{◌≡◌, true, sym, ap, subst, ◌∙◌}
 use Rattle.ts_section.specs.SectionFields.{is_long, body_of}
-use Rattle.ts_section.specs.LawfulSection.{IsSection}
+use Rattle.ts_section.specs.ValidSection.{IsSection}
 use Rattle.ts_section.proofs.HeadBytes.{long_body, long_size}
 use Rattle.ts_section.proofs.section.Section.body.Goals as goal
 

@@ -1,5 +1,5 @@
 use Rattle.std.proofs.Common.{ap, arith}
-use Rattle.bit_rows.proofs.Fields.{field-below}
+use Rattle.ts_bit_rows.proofs.Fields.{field-below}
 use Rattle.ts_section.proofs.section.Section.head.Goals as goal
 
 pub returns-then-is_long-clause-version : goal.returns-then-is_long-clause-version

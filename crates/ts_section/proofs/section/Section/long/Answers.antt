@@ -20,7 +20,7 @@ returns-clause-written c =
     c.in_ok-bytes.ensures.items c.in_ok-extend_from_slice.ensures.items c.in_ok-extend_from_slice-2.ensures.items c.in_ok-extend_from_slice-3.ensures.items c.in_ok-extend_from_slice-4.ensures.items
     c.deref.ensures.value c.crc_of-crc.ensures c.to_be_bytes.ensures c.first_bytes.ensures c.long_bytes.ensures (omega arith) in
     subst (IsLongSectionOf c.args.head c.args.body.now) (sym made)
-    (long_section-is c.args.head c.args.body.now c.requires.lawful_id (omega arith) c.requires.version c.requires.numbers (omega arith) (all_bytes c.args.body.now (λ i. (c.type_inv.body i).fits)) c.requires.room)
+    (long_section-is c.args.head c.args.body.now c.requires.valid_id (omega arith) c.requires.version c.requires.numbers (omega arith) (all_bytes c.args.body.now (λ i. (c.type_inv.body i).fits)) c.requires.room)
 
 pub invariant_of-result : goal.invariant_of-result
 invariant_of-result c =
@@ -30,4 +30,4 @@ invariant_of-result c =
     c.in_ok-bytes.ensures.items c.in_ok-extend_from_slice.ensures.items c.in_ok-extend_from_slice-2.ensures.items c.in_ok-extend_from_slice-3.ensures.items c.in_ok-extend_from_slice-4.ensures.items
     c.deref.ensures.value c.crc_of-crc.ensures c.to_be_bytes.ensures c.first_bytes.ensures c.long_bytes.ensures (omega arith) in
     (subst (IsLongSectionOf c.args.head c.args.body.now) (sym made)
-    (long_section-is c.args.head c.args.body.now c.requires.lawful_id (omega arith) c.requires.version c.requires.numbers (omega arith) (all_bytes c.args.body.now (λ i. (c.type_inv.body i).fits)) c.requires.room)).lawful
+    (long_section-is c.args.head c.args.body.now c.requires.valid_id (omega arith) c.requires.version c.requires.numbers (omega arith) (all_bytes c.args.body.now (λ i. (c.type_inv.body i).fits)) c.requires.room)).valid

@@ -14,7 +14,7 @@ returns-clause-written c =
     short_made c.args.table_id c.args.private c.first_bytes.result c.args.body.now c.in_ok-bytes.bytes.items c.extend_from_slice.new.self.items c.extend_from_slice-2.new.self.items
     c.in_ok-bytes.ensures.items c.in_ok-extend_from_slice.ensures.items c.in_ok-extend_from_slice-2.ensures.items c.first_bytes.ensures in
     subst (IsShortSectionOf c.args.table_id c.args.private c.args.body.now) (sym made)
-    (short_section-is c.args.table_id c.args.private c.args.body.now c.requires.lawful_id (all_bytes c.args.body.now (λ i. (c.type_inv.body i).fits)) c.requires.room)
+    (short_section-is c.args.table_id c.args.private c.args.body.now c.requires.valid_id (all_bytes c.args.body.now (λ i. (c.type_inv.body i).fits)) c.requires.room)
 
 pub invariant_of-result : goal.invariant_of-result
 invariant_of-result c =
@@ -22,4 +22,4 @@ invariant_of-result c =
     short_made c.args.table_id c.args.private c.first_bytes.result c.args.body.now c.in_ok-bytes.bytes.items c.extend_from_slice.new.self.items c.extend_from_slice-2.new.self.items
     c.in_ok-bytes.ensures.items c.in_ok-extend_from_slice.ensures.items c.in_ok-extend_from_slice-2.ensures.items c.first_bytes.ensures in
     (subst (IsShortSectionOf c.args.table_id c.args.private c.args.body.now) (sym made)
-    (short_section-is c.args.table_id c.args.private c.args.body.now c.requires.lawful_id (all_bytes c.args.body.now (λ i. (c.type_inv.body i).fits)) c.requires.room)).lawful
+    (short_section-is c.args.table_id c.args.private c.args.body.now c.requires.valid_id (all_bytes c.args.body.now (λ i. (c.type_inv.body i).fits)) c.requires.room)).valid

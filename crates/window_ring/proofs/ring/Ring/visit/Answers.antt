@@ -13,7 +13,7 @@ use Rattle.window_ring.proofs.Turns.{turn_of, away_of, top, leaves_turn, left_tu
 use Rattle.window_ring.proofs.ring.Ring.visit.Goals as goal
 
 pub overflow_add-seat : goal.overflow_add-seat
-overflow_add-seat c = let a = c.requires.allowed.is_stage in let b = c.requires.lawful.plugins in record { fits = omega (arith, a, b) }
+overflow_add-seat c = let a = c.requires.allowed.is_stage in let b = c.requires.valid.plugins in record { fits = omega (arith, a, b) }
 
 pub compare_exchange-found-requires : goal.compare_exchange-found-requires
 compare_exchange-found-requires c =
@@ -38,7 +38,7 @@ visit-news-requires c =
       key,
       t.history,
       subst (λ v. MayGive key v t.history seat.hand seat.stage c.args.done c.args.word) same
-          (may_give key r.lawful o.changes o.leaves t.value t.history t.later (seen_of c.args.seat.now) seat.hand seat.stage c.args.done c.args.word t.stands t.run t.is t.others r.seat_is.hand_is r.done_within r.allowed),
+          (may_give key r.valid o.changes o.leaves t.value t.history t.later (seen_of c.args.seat.now) seat.hand seat.stage c.args.done c.args.word t.stands t.run t.is t.others r.seat_is.hand_is r.done_within r.allowed),
     )
 
 pub store-requires : goal.store-requires
@@ -48,7 +48,7 @@ store-requires c =
     let m = ap (λ (me : Me State View). me.1) t.me in
     let same : t.value ≡ c.slot_mut.result.now = ap (λ (l : List (ℕ × State)). top t.value l) (sym m ∙ c.slot_mut.ensures.value) in
     let may = subst (λ v. MayGive key v t.history seat.hand seat.stage c.args.done c.args.word) same
-    (may_give key r.lawful o.changes o.leaves t.value t.history t.later (seen_of c.args.seat.now) seat.hand seat.stage c.args.done c.args.word t.stands t.run t.is t.others r.seat_is.hand_is r.done_within r.allowed) in
+    (may_give key r.valid o.changes o.leaves t.value t.history t.later (seen_of c.args.seat.now) seat.hand seat.stage c.args.done c.args.word t.stands t.run t.is t.others r.seat_is.hand_is r.done_within r.allowed) in
     let d = c.visit-news.ensures key t.history may in let new = c.visit-news.new.self in
     let F = λ (n : ℕ) (me : Me State View). Allows (Kept key) n c.compare_exchange-found.new.seat.id me 0 (λ _. 0) (λ _. Leaves (step n 0 0 0 mathlib.Core.Option.none) me 0) in (
       e.0 ∙ r.seat_is.of_table,
@@ -64,7 +64,7 @@ returns-clause-visited c =
     let m = ap (λ (me : Me State View). me.1) t.me in
     let same : t.value ≡ c.slot_mut.result.now = ap (λ (l : List (ℕ × State)). top t.value l) (sym m ∙ c.slot_mut.ensures.value) in
     let may = subst (λ v. MayGive key v t.history seat.hand seat.stage c.args.done c.args.word) same
-    (may_give key r.lawful o.changes o.leaves t.value t.history t.later (seen_of c.args.seat.now) seat.hand seat.stage c.args.done c.args.word t.stands t.run t.is t.others r.seat_is.hand_is r.done_within r.allowed) in
+    (may_give key r.valid o.changes o.leaves t.value t.history t.later (seen_of c.args.seat.now) seat.hand seat.stage c.args.done c.args.word t.stands t.run t.is t.others r.seat_is.hand_is r.done_within r.allowed) in
     let d = c.visit-news.ensures key t.history may in let new = c.visit-news.new.self in
     let st = step c.args.self.now.table.shared.table_id.slots 0 0 0 mathlib.Core.Option.none in
     let w = left_turn key seat.stage (seen_of c.args.seat.now) t.history c.slot_mut.result.now new seat.hand c.visit-news.new.hand c.args.done c.args.word c.visit-news.result st c.store.new.seat.me t.later may d

@@ -2,7 +2,7 @@ use Rattle.std.proofs.Common.{◌+◌, take, drop, length-take-le, refl, arith}
 use Rattle.chain_core.specs.ChainRun.{state_after}
 use Rattle.window_ring.specs.Hands.{row_of}
 use Rattle.window_ring.proofs.Visiting.{may_visit}
-use Rattle.window_ring.proofs.Handover.{promised, cut_of, goes_behind, goes_in, told, no_less, waits, own_low, comes_behind, same_land, fits, took, handed}
+use Rattle.window_ring.proofs.Handover.{promised, cut_of, goes_after, goes_in, told, no_less, waits, own_low, comes_after, same_land, fits, took, handed}
 use Rattle.window_ring.proofs.state.State.visit.Goals as goal
 
 pub visit-news-requires : goal.visit-news-requires
@@ -13,7 +13,7 @@ give-requires-clause-behind c =
     let may = c.requires.2 in let hand = c.args.hand.now in let done = c.args.done in
     let p = promised may c.one_visit.ensures.changes c.news_promises.ensures.hold in
     let cut = cut_of may hand (row_of hand.at hand.land (take done hand.cells)) (row_of (hand.at + done) hand.land (drop done hand.cells)) c.len.result c.next_of-next.result refl refl refl c.len.ensures c.next_of-next.ensures in
-    goes_behind may p cut _ refl
+    goes_after may p cut _ refl
 
 pub give-requires-clause-fits : goal.give-requires-clause-fits
 give-requires-clause-fits c =
@@ -55,7 +55,7 @@ take_from-requires-clause-behind c =
     let cut = cut_of may hand (row_of hand.at hand.land (take done hand.cells)) c.give.new.hand c.len.result c.next_of-next.result refl refl c.give.ensures.rest c.len.ensures c.next_of-next.ensures in
     let t = told may p cut c.visit-news.result c.progress-before.result c.give.new.links.items _
     (c.visit-news.ensures.news (state_after c.requires.0.plan c.requires.1) (take done hand.cells) (length-take-le done hand.cells may.done_within)) c.progress-before.ensures c.give.ensures.link in
-    comes_behind may p cut t _ refl
+    comes_after may p cut t _ refl
 
 pub take_from-requires-clause-same : goal.take_from-requires-clause-same
 take_from-requires-clause-same c =

@@ -1,7 +1,0 @@
--- The lemmas of `info_texts`.
-pub mod LineLemmas
-pub mod RoundLemmas
-pub mod JsonLemmas
-pub mod MarkLemmas
-pub mod PlainLemmas
-mod Rows

@@ -1,9 +1,0 @@
--- The definitions of `info_texts`: the names and texts of `info`.
-pub mod InfoJson
-pub mod InfoNames
-pub mod InfoTexts
-pub mod Marks
-pub mod NameRows
-pub mod PlainTexts
-pub mod Rounding
-pub mod ServiceNames

@@ -1,6 +1,0 @@
-use Rattle.std.proofs.Common.{◌≡◌}
-use Rattle.low_tests.proofs.generated.some_packets.Given as goal
-
--- each packet so far was given
-abbrev pub invariant-loop-i : goal.invariant-loop-i
-invariant-loop-i g l = l.generator.given ≡ l.i

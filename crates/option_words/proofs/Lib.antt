@@ -1,7 +1,0 @@
-pub mod JoinedLemmas
-pub mod NumberLemmas
-pub mod PairLemmas
-pub mod ParsedOptionsLemmas
-pub mod RefusalLemmas
-pub mod SignLemmas
-mod Rows

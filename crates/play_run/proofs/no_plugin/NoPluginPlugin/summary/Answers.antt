@@ -1,5 +1,0 @@
-use Rattle.std.proofs.Common.{sym, append-nil}
-use Rattle.play_run.proofs.no_plugin.NoPluginPlugin.summary.Goals as goal
-
-pub returns-clause-said : goal.returns-clause-said
-returns-clause-said c = λ history mark holds. sym (append-nil c.args._lines.now.items)

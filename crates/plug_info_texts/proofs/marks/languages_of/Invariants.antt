@@ -1,0 +1,11 @@
+use Rattle.std.proofs.Common.{◌≡◌, [], drop, map}
+use Rattle.std.specs.Prelude.{fold}
+use Rattle.std.specs.List.{flat_map}
+use Rattle.plug_info_texts.specs.Marks.{languages_in, with_new}
+use Rattle.plug_info_texts.proofs.marks.languages_of.Given as goal
+
+-- the descriptors that are left make of the languages so far the same as all make of none
+abbrev pub invariant-loop-descriptor : goal.invariant-loop-descriptor
+invariant-loop-descriptor l =
+    fold with_new (map (λ t. t.now) l.languages.items) (flat_map languages_in (drop l.descriptor-index l.descriptors))
+    ≡ fold with_new [] (flat_map languages_in l.descriptors)

@@ -1,0 +1,8 @@
+pub mod JoinedLemmas
+pub mod NumberLemmas
+pub mod PairLemmas
+pub mod ParsedOptionsLemmas
+pub mod RefusalLemmas
+pub mod SignLemmas
+mod Rows
+mod SettingsRows

@@ -1,0 +1,111 @@
+//! A plugin of the chain, of any kind and with its labels.
+
+ghost use Rattle.std.specs.Prelude.{◌≡◌, IfOk, []};
+ghost use Rattle.plugin_set.specs.Items.{rule_of_item};
+ghost use Rattle.plugin_set.specs.Plugins.{is_silent, preallocated_of};
+
+use crate::idle::{Idle, why_idle};
+use crate::masked_plugin::MaskedPlugin;
+use crate::plugin_item::PluginItem;
+use crate::sees_tables::{SeesTables, add_changes};
+use crate::some_plugin::SomePlugin;
+use plug_psi::Changes;
+use plugin_trait::{Applied, Line, Outcome, Plugin};
+use std::alloc::{AllocError, Global};
+use ts_packet::{Cell, Labels, Packet};
+use ts_section::Section;
+
+/// A plugin of the chain. It sees every packet, or only those that have one of its labels.
+#[derive(Drop)]
+pub struct AnyPlugin {
+    masked: MaskedPlugin<SomePlugin>,
+}
+
+impl AnyPlugin {
+    ghost use Rattle.plugin_set.specs.Items.{IsValidItem};
+
+    /// The plugin of this item before any cell. `sections` are those of the file that its settings name
+    /// (`table_file`); where they name none, they are not used. `buffer` is the number of positions that the chain
+    /// holds; a plugin for which `preallocated_of` gives that number allocates its memory for so many positions after the
+    /// greatest mark here.
+    pub fn of(
+        alloc: Global,
+        item: &PluginItem,
+        sections: Vec<Section>,
+        buffer: usize,
+    ) -> Result<AnyPlugin, AllocError>
+        requires { IsValidItem item.now }
+        ensures rule { IfOk result (λ plugin. ⟦<AnyPlugin as Plugin>⟧.rule plugin ≡ rule_of_item item.now sections.items) }
+        ensures fresh { IfOk result (λ plugin. ⟦<AnyPlugin as Plugin>⟧.stands_for plugin [] 0) }
+        ensures preallocated { IfOk result (λ plugin. ⟦<AnyPlugin as Plugin>⟧.preallocated plugin ≡ preallocated_of item.now.conf buffer) }
+        ensures silent { IfOk result (λ plugin. ⟦<AnyPlugin as Plugin>⟧.silent plugin ≡ is_silent item.now.conf) }
+    {
+        Ok(AnyPlugin {
+            masked: MaskedPlugin {
+                plugin: SomePlugin::of(alloc, &item.conf, sections, buffer)?,
+                only: item.labels(),
+            },
+        })
+    }
+
+    /// Why the plugin was idle in all packets that it was shown; `None` where it was not, or where its kind edits,
+    /// inserts and reads nothing. It is asked before the report.
+    pub fn idle(&self) -> Result<Option<Idle>, AllocError> {
+        why_idle(&self.masked.plugin)
+    }
+}
+
+impl SeesTables for AnyPlugin {
+    fn add_changes(&self, changes: &mut Changes) -> Result<(), AllocError> {
+        add_changes(&self.masked.plugin, changes)
+    }
+}
+
+impl Plugin for AnyPlugin {
+    ghost use Rattle.plugin_set.specs.contracts.some_plugin.SomePluginPlugin.TheImpl.Laws.{valid as some_laws};
+    ghost use Rattle.plugin_set.specs.OnlyLabels.{shown, starts_open_for};
+
+    ghost rule = { λ s. ⟦<MaskedPlugin<SomePlugin> as Plugin>⟧.rule s.masked };
+
+    ghost stands_for = { λ s. ⟦<MaskedPlugin<SomePlugin> as Plugin>⟧.stands_for s.masked };
+
+    ghost preallocated = { λ s. ⟦<MaskedPlugin<SomePlugin> as Plugin>⟧.preallocated s.masked };
+
+    ghost silent = { λ s. ⟦<MaskedPlugin<SomePlugin> as Plugin>⟧.silent s.masked };
+
+    fn step(&mut self, at: u64, packet: &mut Packet, labels: &mut Labels) -> Outcome {
+        self.masked.step(at, packet, labels)
+    }
+
+    fn pass_over(&mut self, at: u64) {
+        self.masked.pass_over(at);
+    }
+
+    // A plugin that sees every packet takes the whole window in one call.
+    fn steps(&mut self, at: u64, cells: &mut [Cell], noted: &mut bool) -> Applied {
+        match self.masked.only {
+            None => self.masked.plugin.steps(at, cells, noted),
+            Some(_) => self.masked.steps(at, cells, noted),
+        }
+    }
+
+    fn note(&mut self, written: u64, lines: &mut Vec<Line>) -> Result<(), AllocError> {
+        self.masked.note(written, lines)
+    }
+
+    fn summary(&self, at: u64, lines: &mut Vec<Line>) -> Result<(), AllocError> {
+        self.masked.summary(at, lines)
+    }
+
+    fn agreed(&self) -> bool {
+        self.masked.agreed()
+    }
+
+    fn has_fault(&self, cut: u64) -> bool {
+        self.masked.has_fault(cut)
+    }
+
+    ghost starts_open = { λ plugin history mark stands. starts_open_for plugin.masked.only
+        (⟦<SomePlugin as Plugin>⟧.rule plugin.masked.plugin)
+        (some_laws.starts_open plugin.masked.plugin (shown plugin.masked.only history) mark stands) };
+}

@@ -1,8 +1,0 @@
-use Rattle.plugin_tests.proofs.ends.end_and_agreement.Goals as goal
-
-pub agreed-requires : goal.agreed-requires
-agreed-requires c = record {
-  history = _;
-  mark = 0;
-  holds = c.apply_plugin-end.ensures.met 0 c.requires.fresh;
-}

@@ -1,8 +1,0 @@
-use Rattle.table_file.proofs.FaultLemmas.{no-memory-of-text, no-memory-of-sections}
-use Rattle.table_file.proofs.law.memory_refuses_no_file.Goals as goal
-
-pub returns-clause-text : goal.returns-clause-text
-returns-clause-text c = no-memory-of-text
-
-pub returns-clause-sections : goal.returns-clause-sections
-returns-clause-sections c = no-memory-of-sections

@@ -1,2 +1,0 @@
--- The definition of the sections in a file of tables.
-pub mod TableFiles

@@ -1,0 +1,68 @@
+//! Rows on whole services, and on PIDs that tables name.
+use crate::inputs::Input;
+use crate::row::Row;
+use test_tools::ORDINARY;
+
+/// A service kept alone, and one taken out, of the generated stream.
+pub(crate) fn rows() -> &'static [Row] {
+    &SERVICE_ROWS
+}
+
+static SERVICE_ROWS: [Row; 5] = [
+    Row {
+        name: "zap leaves nothing of the other service",
+        words: "-I testgen 1 1000 -P zap 1 -P count --pid 258-259,4097,8191 -O drop",
+        input: Input::Pids(&[]),
+        plan: ORDINARY,
+    },
+    Row {
+        name: "zap keeps one service",
+        words: "-I testgen 1 1000 -P zap 1 -P count -O drop",
+        input: Input::Pids(&[]),
+        plan: ORDINARY,
+    },
+    Row {
+        name: "the tables that zap writes",
+        words: "-I testgen 1 10 -P zap 2 -O file out",
+        input: Input::Pids(&[]),
+        plan: ORDINARY,
+    },
+    Row {
+        name: "svremove leaves what both services use",
+        words: "-I testgen 1 1000 -P svremove 1 -P count -O drop",
+        input: Input::Pids(&[]),
+        plan: ORDINARY,
+    },
+    Row {
+        name: "svremove with null packets in place",
+        words: "-I testgen 1 100 -P svremove 2 --stuffing -P count -O drop",
+        input: Input::Pids(&[]),
+        plan: ORDINARY,
+    },
+];
+
+/// Words of these plugins that are no command line.
+pub(crate) fn of_words() -> &'static [Row] {
+    &SERVICE_WORD_ROWS
+}
+
+static SERVICE_WORD_ROWS: [Row; 3] = [
+    Row {
+        name: "zap of no service",
+        words: "-I null 2 -P zap -O drop",
+        input: Input::Pids(&[]),
+        plan: ORDINARY,
+    },
+    Row {
+        name: "service 0 to keep",
+        words: "-I null 2 -P zap 0 -O drop",
+        input: Input::Pids(&[]),
+        plan: ORDINARY,
+    },
+    Row {
+        name: "two services to take out",
+        words: "-I null 2 -P svremove 1 2 -O drop",
+        input: Input::Pids(&[]),
+        plan: ORDINARY,
+    },
+];

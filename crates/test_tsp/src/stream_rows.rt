@@ -1,0 +1,54 @@
+//! Rows on the contents of a stream: its PIDs, its services and its tables.
+use crate::inputs::Input;
+use crate::row::Row;
+use test_tools::ORDINARY;
+
+/// What `analyze` and `tables` report of null packets and of the generated stream.
+pub(crate) fn rows() -> &'static [Row] {
+    &STREAM_ROWS
+}
+
+static STREAM_ROWS: [Row; 5] = [
+    Row {
+        name: "null packets alone",
+        words: "-I null 2 -P analyze -O drop",
+        input: Input::Pids(&[]),
+        plan: ORDINARY,
+    },
+    Row {
+        name: "one service, its counters as they should be",
+        words: "-I testgen 1 1000 -P zap 1 -P continuity --fix -P analyze -O drop",
+        input: Input::Pids(&[]),
+        plan: ORDINARY,
+    },
+    Row {
+        name: "the services of the PAT at the cut",
+        words: "-I testgen 1 1000 -P analyze -P until --packets 2 -O drop",
+        input: Input::Pids(&[]),
+        plan: ORDINARY,
+    },
+    Row {
+        name: "tables of two PIDs",
+        words: "-I testgen 1 1000 -P tables --pid 0,4096 -O drop",
+        input: Input::Pids(&[]),
+        plan: ORDINARY,
+    },
+    Row {
+        name: "tables below the cut",
+        words: "-I testgen 1 1000 -P tables --tid 2 -P until --packets 2 -O drop",
+        input: Input::Pids(&[]),
+        plan: ORDINARY,
+    },
+];
+
+/// Words of these plugins that are no command line.
+pub(crate) fn of_words() -> &'static [Row] {
+    &STREAM_WORD_ROWS
+}
+
+static STREAM_WORD_ROWS: [Row; 1] = [Row {
+    name: "a table_id above 255",
+    words: "-I null 2 -P tables --tid 256 -O drop",
+    input: Input::Pids(&[]),
+    plan: ORDINARY,
+}];

@@ -1,7 +1,0 @@
-use Rattle.stage_run.specs.Seeing.{seeing}
-use Rattle.thread_run.proofs.Carries.{one_still_ready}
-use Rattle.thread_run.proofs.driving.drive.Goals as goal
-
-pub step-requires-after_bounds : goal.step-requires-after_bounds
-step-requires-after_bounds g c = λ κs within.
-    one_still_ready (seeing g.S.Source.seen g.K.Sink.seen g.P.Plugin.rule g.P.Plugin.stands_for g.P.Plugin.steady) c.args.ring.now c.args.stage.now c.loop.stage c.loop.invariant.2 c.requires.ready

@@ -1,7 +1,0 @@
-use Rattle.stage_run.specs.Seeing.{seeing}
-use Rattle.thread_run.specs.Driving.{Keeps}
-use Rattle.thread_run.proofs.driving.go_ahead.Given as goal
-
-abbrev pub invariant-loop : goal.invariant-loop
-invariant-loop g l =
-    Keeps (seeing g.S.Source.seen g.K.Sink.seen g.P.Plugin.rule g.P.Plugin.stands_for g.P.Plugin.steady) l.ring l.fn.stage l.stage

@@ -1,5 +1,0 @@
-use Rattle.std.proofs.Common.{length}
-use Rattle.thread_run.proofs.threaded_run.+unseat_all.Given as goal
-
-abbrev pub decreases-unseat_all : goal.decreases-unseat_all
-decreases-unseat_all g l = length l.stages.items

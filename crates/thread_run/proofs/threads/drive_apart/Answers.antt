@@ -1,7 +1,0 @@
-use Rattle.stage_run.specs.Seeing.{seeing}
-use Rattle.thread_run.proofs.Carries.{still_ready}
-use Rattle.thread_run.proofs.threads.drive_apart.Goals as goal
-
-pub try_threads-requires-clause-ready : goal.try_threads-requires-clause-ready
-try_threads-requires-clause-ready g c = λ κs within.
-    still_ready (seeing g.S.Source.seen g.K.Sink.seen g.P.Plugin.rule g.P.Plugin.stands_for g.P.Plugin.steady) c.args.ring.now c.args.stages.now c.loop.stages c.loop.invariant.2 c.requires.ready

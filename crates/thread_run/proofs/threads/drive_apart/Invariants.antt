@@ -1,8 +1,0 @@
-use Rattle.stage_run.specs.Seeing.{seeing}
-use Rattle.thread_run.specs.Driving.{Carried}
-use Rattle.thread_run.proofs.threads.drive_apart.Given as goal
-
-abbrev pub invariant-loop : goal.invariant-loop
-invariant-loop g l =
-    (goal.iterator-loop g).can_next l.iterator' × (goal.iterator-loop g).is_finite l.iterator'
-    × Carried (seeing g.S.Source.seen g.K.Sink.seen g.P.Plugin.rule g.P.Plugin.stands_for g.P.Plugin.steady) l.ring l.fn.stages l.stages
