@@ -10,7 +10,7 @@ FORMS = {"ts": (0, 0), "m2ts": (4, 0), "rs204": (0, 16)}
 
 
 def between(number, count):
-    """So many bytes that stand beside the packet of this number."""
+    """So many bytes that are beside the packet of this number."""
     return bytes(0x47 if (number + k) % 3 == 0 else (number * 5 + k * 7) % 256 for k in range(count))
 
 
@@ -53,7 +53,7 @@ def coded(data):
 
 
 def wrapped(form, data):
-    """The packets of some bytes, each with what stands before and after it; of a last one that is not whole what there is."""
+    """The packets of some bytes, each with what is before and after it; of a last one that is not whole what there is."""
     before, behind = FORMS[form]
     units = []
     for number in range(-(-len(data) // SIZE)):

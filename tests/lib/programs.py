@@ -22,7 +22,7 @@ SKIPPED = 77
 
 
 def given():
-    """The paths that stand after --program, which are taken out of the words."""
+    """The paths that are given after --program, which are taken out of the words."""
     paths = []
     while "--program" in sys.argv:
         at = sys.argv.index("--program")

@@ -177,7 +177,7 @@ def distinct(runs):
 
 
 def is_within(part, all_of):
-    """Whether the items stand in the list, in this order."""
+    """Whether the items are in the list, in this order."""
     rest = iter(all_of)
     return all(any(item == other for other in rest) for item in part)
 

@@ -7,7 +7,7 @@ from lib import reader
 BYTES = [0, 1, 2, 3, 5, 127, 128, 182, 183, 184, 254, 255]
 LENGTHS = [0, 1, 2, 4, 5, 8, 9, 12, 13, 16, 1021, 1022, 4093, 4094, 4095]
 
-# What comes in the place of a number or a text of a JSON text.
+# What comes instead of a number or a text of a JSON text.
 VALUES = ["-1", "0", "1.5", "1e999", "31", "32", "255", "256", "4095", "8191", "8192", "65535", "65536", "4294967296",
           "18446744073709551616", "null", "true", "[]", "{}", '""', '"0x"', '"0x1FFF"', '"-1"', '"\\ud800"', '"\\u0000"',
           '"' + "z" * 300 + '"', '"' + "7" * 500 + '"', "[" * 200 + "]" * 200]
@@ -217,7 +217,7 @@ def text_of(draw, texts):
 
 
 def with_value(draw, text, is_near):
-    """A number, or a text that is no name, is another one, and sometimes one that stands elsewhere."""
+    """A number, or a text that is no name, is another one, and sometimes one that is elsewhere."""
     parts = re.finditer(rb'("#name": *)?"[^"]*"( *:)?|\b\d+\b', text)
     found = [part for part in parts if not part[0].startswith(b'"#name"') and not part[0].endswith(b":")]
     if not found:

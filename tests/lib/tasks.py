@@ -1,4 +1,4 @@
-"""Chains that stand still over a pipe, how many threads they have then, and limits on the threads of a user."""
+"""Chains that wait over a pipe, how many threads they have then, and limits on the threads of a user."""
 import os
 import resource
 import select

@@ -130,7 +130,7 @@ pub fn general_help() -> SegmentHelp
         first: "the",
         name: "general options",
         usage: "[general options] [-I input] [-P plugin [options]]... [-O output]",
-        rule: "The general options stand before all others.",
+        rule: "The general options come before all others.",
         options: &GENERAL,
     }
 }

@@ -137,7 +137,7 @@ pure-rows rules input zero = refl
 pure-rows rules input (suc j) =
     ap (λ (row : List Ending). row ++ ending_of (suc j) (stage_list rules input (suc j))) (pure-rows rules input j)
 
--- how a stage stands at a place: it ended by itself there, or no cause of it stands there
+-- how a stage is at a place: it ended by itself there, or no cause of it is there
 told-cases : (progress : StagesProgress) (c k : ℕ) → (causes_at c (ending_of_progress k (progress k)) ≡ []) ⊎ ((why : Cause) × EndsBy progress k why × ((progress k).given ≡ c))
 told-cases progress c k =
     elim (progress k).ended as (λ o. (progress k).ended ≡ o → (causes_at c (ending_with (progress k).given (option_and_then (cause_of_stage k) o)) ≡ []) ⊎ ((why : Cause) × EndsBy progress k why × ((progress k).given ≡ c))) [
@@ -445,7 +445,7 @@ module _ (plan : CorePlan) (rules : List PluginRule) (input : StageList) (state 
         let by = told-until (progress_of_stages state) c t.0 u t.2 in
         subst (λ (w : Cause). Verdict w) (sym why) (inl (cut, sym why' ∙ pure-cause (joint-not not_) cut), inr (t.0, by.0, t.1, by.2))
 
-    -- no list ends at the cut after one that does, where no last packet stands there
+    -- no list ends at the cut after one that does, where no last packet is there
     none-behind : until_at c (up_to pure_row plan.plugins) ≡ None → (k : ℕ) → length (stage_list rules input k).cells ≡ c → (j : ℕ) → k < j → j ≤ plan.plugins → causes_at c (pure_row j) ≡ []
     none-behind none k at zero lt le = absurd (omega arith)
     none-behind none k at (suc i) lt le =

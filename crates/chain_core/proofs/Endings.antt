@@ -147,7 +147,7 @@ until_at-none c f (suc j) e k le =
       | inr apart ↦ until_at-none c f j both.0 k (omega arith)
     ]
 
--- a cause that stands at a stage, with none after it, is the last one of the row
+-- a cause that is at a stage, with none after it, is the last one of the row
 pub last_at-is : (c : ℕ) (f : ℕ → List Ending) (k : ℕ) (x : Cause) → causes_at c (f k) ≡ x ∷ [] → (n : ℕ) → k ≤ n → ((j : ℕ) → k < j → j ≤ n → causes_at c (f j) ≡ []) → last_at c (up_to f n) ≡ Some x
 last_at-is c f k x here zero le none =
     let z : k ≡ 0 = omega arith in

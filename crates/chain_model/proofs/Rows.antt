@@ -13,7 +13,7 @@ use Rattle.chain_model.specs.Joint.{agreement_of, joint_position}
 use Rattle.chain_model.specs.Cut.{cut_of, cause_of}
 use Rattle.chain_model.specs.Stuffed.{stuffed}
 
--- a rule that gives this fate after so many cells, passes before, and agrees after so many others
+-- a rule that gives this outcome after so many cells, passes before, and agrees after so many others
 abbrev rule_at : ℕ → (List ℕ → RuleOutcome) → ℕ → PluginRule
 rule_at n action agreed = record {
   outcome_of = λ history packet labels. if length history == n then action packet else passes packet;

@@ -1,4 +1,4 @@
--- What a plugin sees that goes by some labels alone, and what its rule is then.
+-- What a plugin sees that is shown packets with some labels alone, and what its rule is then.
 -- This project's own rule.
 use Rattle.std.specs.Prelude.{ℕ, List, [], map, if◌then◌else◌}
 use Rattle.ts_packet.specs.declared.cell.Cell.{Cell}

@@ -1,4 +1,6 @@
 //! The plugin type of a chain that has no plugin.
+//!
+//! So the gate of a run is handed down and never called.
 use plugin_trait::{Line, Outcome, Plugin};
 use std::alloc::AllocError;
 use ts_packet::{Labels, Packet};

@@ -1,4 +1,7 @@
 //! The kinds of a play whose input is open: with a ring of its own, which may be read ahead, and as the source alone.
+//!
+//! The kind is a parameter of all steps, definitions and lemmas. What needs threads, playing itself, is in functions
+//! beside the trait, since a method of a trait cannot hand on that its own parameters may be sent to threads.
 ghost use Rattle.std.specs.Prelude.{◌≡◌, ℕ, IfOk, IfErr};
 ghost use Rattle.chain_core.specs.declared.core_plan.CorePlan.{CorePlan};
 ghost use Rattle.chain_core.specs.CoreNumbers.{IsValidPlan};

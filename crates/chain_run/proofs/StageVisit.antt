@@ -91,7 +91,7 @@ may_read buffer cut at len before after was reads within below =
       ])
     ]
 
--- fewer cells than stand in the window below the limit
+-- fewer cells than are in the window below the limit
 pub below-both : (limit : Option ℕ) (at' len' at len done : ℕ) → at' ≡ at → len' ≡ len → done < below_limit limit at' len' → (done < len) × ((l : ℕ) → limit ≡ Some l → at + done < l)
 below-both None at' len' at len done a b lt = (omega arith, λ l is. cc)
 below-both (Some m) at' len' at len done a b lt = (omega arith, λ l is. let same : m ≡ l = cc in omega arith)

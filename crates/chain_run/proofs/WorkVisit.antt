@@ -97,7 +97,7 @@ module _ {S K P : Type 0} (see : Seeing S K P) (begun : RunStart S K)
     taken-within : (old.stages k).taken ≤ low + begun.plan.buffer
     taken-within = taken-ahead laws begun.plan r.valid.users visits by.ran.run k
 
-    -- the cells after those that the stage gave stand in the buffer
+    -- the cells after those that the stage gave are in the buffer
     module _ (j : ℕ) (e : suc j ≡ k) (le : j ≤ begun.plan.plugins) where
       taken-all : (old.stages k).taken ≤ length (old.stages j).given
       taken-all = subst (λ i. (old.stages i).taken ≤ length (old.stages j).given) e (taken-given laws begun.plan r.valid.users visits by.ran.run j)

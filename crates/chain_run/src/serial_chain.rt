@@ -1,4 +1,8 @@
 //! A chain that runs in one thread: its stages take turns.
+//!
+//! A turn has two visits: the first gives nothing and brings the news, the second gives on what was done with them. One
+//! visit a turn would do with the news of the turn before; two leave nothing unsaid between turns, which makes the
+//! run's proof short, and cost nothing where a batch has many packets.
 ghost use Rattle.std.specs.Prelude.{◌≡◌, ◌<◌, ◌||◌};
 ghost use Rattle.chain_core.specs.Numbers.{MayVisit};
 ghost use Rattle.chain_core.specs.CoreNumbers.{progress_of_core};

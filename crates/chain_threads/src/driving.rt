@@ -1,4 +1,13 @@
 //! Stages that are driven until they have ended, from one thread.
+//!
+//! `finish` alone owes that all have ended: what a worker promises is the same at any moment, so it may stop where it
+//! likes, and the contract of a thread needs no flag.
+//!
+//! Where one thread drives all stages of a ring, one that worked takes another turn at once: the second one gives on
+//! what the first one worked on, so the stage after it finds it in the same round. With one turn a round a batch would
+//! need a round for each stage. The second turn of the input begins a read, so what the first one read is handed on,
+//! but may be worked on only when that read has come back; a turn that only hands on would mend it. This is so only in
+//! a chain whose threads cannot be started.
 
 ghost use Rattle.std.specs.Prelude.{◌≡◌, ◌&&◌, true, length};
 ghost use Rattle.stage_run.specs.Seeing.{seeing};

@@ -1,4 +1,8 @@
 //! The line at which the threads of all stages meet.
+//!
+//! They meet at one word, in which who decides first does so for all: the last to come, that all are here, or one that
+//! has waited too long, that the wait is given up. A flag "give up" beside a flag "all have begun" would leave a moment
+//! in which one thread sees the first and another one the second, and then sleeps for ever.
 
 use std::sync::Wait;
 use std::sync::atomic::AtomicU64;

@@ -8,7 +8,7 @@ use ts_table_rows::TableRefusal;
 
 /// What is said of a text that was not compiled: a line with the place in it as an RFC 6901 pointer and what is wrong there, or
 /// that it is not JSON, or which table has no sections and why. Of the text itself, where it was kept, comes at which place it is
-/// not JSON and what it seems to be, and what may stand at the place.
+/// not JSON and what it seems to be, and what may be at the place.
 pub fn compile_text(
     alloc: Global,
     fault: &CompileFault,

@@ -22,7 +22,7 @@ fn kind_of(bytes: &[u8]) -> Option<FileKind> {
         };
         return is_stream.then_some(FileKind::Stream);
     }
-    // A mark of the order of bytes and blanks may stand before a text.
+    // A mark of the order of bytes and blanks may come before a text.
     for byte in bytes
         .strip_prefix(b"\xEF\xBB\xBF".as_slice())
         .unwrap_or(bytes)

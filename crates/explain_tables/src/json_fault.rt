@@ -38,7 +38,7 @@ fn put_key(text: &mut String, key: &str) -> Result<(), AllocError> {
     Ok(())
 }
 
-// Puts what may stand at the place of a fault, by the text in which it is.
+// Puts what may be at the place of a fault, by the text in which it is.
 fn put_may_stand(
     alloc: Global,
     text: &mut String,
@@ -60,7 +60,7 @@ fn put_may_stand(
     }
 }
 
-/// The place of the fault, and what is wrong there, in one line; and in another one what may stand there, where the text was kept
+/// The place of the fault, and what is wrong there, in one line; and in another one what may be there, where the text was kept
 /// and the pages of tables and descriptors tell it.
 pub(crate) fn json_text(
     alloc: Global,

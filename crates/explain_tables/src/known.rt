@@ -1,4 +1,4 @@
-//! What may stand at a place of a text of tables, by the pages of tables and descriptors.
+//! What may be at a place of a text of tables, by the pages of tables and descriptors.
 use serde_json::Value;
 use std::alloc::AllocError;
 use ts_fields::{Field, Kind};
@@ -8,7 +8,7 @@ use ts_table_pages::{
 };
 use ts_table_rows::{LoopForm, TableLayout};
 
-/// The names of an element and of those that it stands in; empty where there is none, or it has none.
+/// The names of an element and of those that it is in; empty where there is none, or it has none.
 #[derive(Clone, Copy)]
 pub(crate) struct Place<'a> {
     pub(crate) name: &'a str,
@@ -142,7 +142,7 @@ pub(crate) fn put_known_keys(text: &mut String, place: Place<'_>) -> Result<(), 
     text.push('\n')
 }
 
-// Whether descriptors may stand in the element in which this one is.
+// Whether descriptors may be in the element in which this one is.
 fn may_have_descriptors(place: Place<'_>) -> bool {
     if let Some(table) = table_named(place.parent) {
         return table.loop_form != LoopForm::Absent;
@@ -158,7 +158,7 @@ fn may_have_descriptors(place: Place<'_>) -> bool {
     }
 }
 
-// The name of the items that may stand in an element; nothing where none may.
+// The name of the items that may be in an element; nothing where none may.
 fn item_name(parent: &str) -> &'static str {
     if let Some(table) = table_named(parent) {
         if let Some(items) = table.items {
@@ -173,7 +173,7 @@ fn item_name(parent: &str) -> &'static str {
     ""
 }
 
-/// Puts a line with the elements that may stand where this one does; nothing where none may.
+/// Puts a line with the elements that may be where this one is; nothing where none may.
 pub(crate) fn put_known_elements(text: &mut String, place: Place<'_>) -> Result<(), AllocError> {
     if place.parent == "tsduck" {
         return text.push_str(

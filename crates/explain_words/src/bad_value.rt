@@ -34,12 +34,12 @@ pub(crate) fn list_text(takes: Takes) -> &'static str {
     }
 }
 
-// Whether the sign stands in the word.
+// Whether the sign is in the word.
 fn has_sign(word: &str, sign: char) -> bool {
     word.contains(sign)
 }
 
-// What is said where another sign stands between two numbers.
+// What is said where another sign is between two numbers.
 fn sign_text(takes: Takes, value: &str) -> &'static str {
     let (Takes::Pair(sign, _, _) | Takes::Pairs(sign, _, _)) = takes else {
         return "";

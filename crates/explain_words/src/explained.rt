@@ -8,7 +8,7 @@ use plugin_options::WordsRule;
 use std::alloc::{AllocError, Global};
 
 /// What a refused command line is shown: the words of the segment that breaks a rule, a mark below the one that is wrong, and
-/// what may stand there. `at` is the number of the segment's first word, from 0, and the words are given without the
+/// what may be there. `at` is the number of the segment's first word, from 0, and the words are given without the
 /// program's name. An `AllocError` leaves nothing.
 pub fn fault_text(
     alloc: Global,

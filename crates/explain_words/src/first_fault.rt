@@ -42,7 +42,7 @@ fn value_said<'a>(
     Ok((!fits).then_some(Said::BadValue(row)))
 }
 
-// Whether another option of the same choice stands among words.
+// Whether another option of the same choice is among words.
 fn other_stands(options: &[ShownOption], row: &ShownOption, words: &[String]) -> bool {
     for other in options {
         if other.choice == row.choice
@@ -84,7 +84,7 @@ fn conflict_said<'a>(
     }
 }
 
-// The first word that is wrong of a segment with these options and operands, which stand after a head.
+// The first word that is wrong of a segment with these options and operands, which come after a head.
 fn first_fault<'a>(
     alloc: Global,
     options: &'a [ShownOption],
@@ -116,7 +116,7 @@ fn first_fault<'a>(
     Ok(None)
 }
 
-// Whether the word `--` stands among words, after which no word is an option.
+// Whether the word `--` is among words, after which no word is an option.
 fn ends_options(own: &[String]) -> bool {
     for word in own {
         if word.as_str() == "--" {

@@ -35,7 +35,7 @@ pub(crate) fn wide(takes: Takes) -> Takes {
     }
 }
 
-/// Whether two words are pairs of this form that may not stand beside one another: they have their first number in common, or
+/// Whether two words are pairs of this form that may not be given together: they have their first number in common, or
 /// their second one where that is checked.
 pub(crate) fn clashes(checked: bool, takes: Takes, word: &str, other: &str) -> bool {
     let Takes::Pair(sign, first, second) = takes else {

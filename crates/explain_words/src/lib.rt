@@ -1,6 +1,6 @@
 //! What a refused command line is shown beyond its one line: a table of options, the words and the broken rule come in, a text
-//! that marks the faulty word and says what may stand there goes out. The programs above use `fault_text`, and `words_text` where
-//! they have no such table. No clause says what the texts are: their rows stand in `test_explain`.
+//! that marks the faulty word and says what may be there goes out. The programs above use `fault_text`, and `words_text` where
+//! they have no such table. No clause says what the texts are: their rows are in `test_explain`.
 #![tactic(auto)]
 
 mod bad_value;

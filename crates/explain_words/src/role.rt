@@ -1,8 +1,8 @@
-//! What a word of a segment stands for.
+//! What a word of a segment is.
 use crate::shown_option::ShownOption;
 use plugin_options::split_at_sign;
 
-/// What a word of a segment stands for, by the words before it.
+/// What a word of a segment is, by the words before it.
 #[derive(Clone, Copy)]
 pub(crate) enum Role<'a> {
     /// The value of the option before it.
@@ -25,7 +25,7 @@ pub(crate) fn name_part(word: &str) -> &str {
     }
 }
 
-/// The value of a word, which in an option's own word stands after `=`.
+/// The value of a word, which in an option's own word comes after `=`.
 pub(crate) fn value_part(word: &str) -> &str {
     if !is_dashed(word) {
         return word;
@@ -61,7 +61,7 @@ pub(crate) fn operand(options: &[ShownOption], count: usize) -> Option<&ShownOpt
     None
 }
 
-/// What a word stands for after another one and so many operands.
+/// What a word is after another one and so many operands.
 pub(crate) fn role_of<'a>(
     options: &'a [ShownOption],
     previous: &str,
@@ -86,7 +86,7 @@ pub(crate) fn role_of<'a>(
     }
 }
 
-/// Whether the option of a name stands among words.
+/// Whether the option of a name is among words.
 pub(crate) fn stands(name: &str, words: &[String]) -> bool {
     for word in words {
         if name_part(word.as_str()) == name {

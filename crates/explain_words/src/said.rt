@@ -4,13 +4,13 @@ use crate::shown_option::ShownOption;
 /// What is wrong with a segment or with one word of it.
 #[derive(Clone, Copy)]
 pub(crate) enum Said<'a> {
-    /// Only one segment of its kind may stand.
+    /// Only one segment of its kind may be given.
     Second,
     /// A name is needed after the first word.
     NoName,
     /// There is no segment of this name.
     UnknownName,
-    /// No plugin more may stand.
+    /// No further plugin may be given.
     TooMany,
     /// The word is an unknown option of the segment.
     UnknownOption,
@@ -18,17 +18,17 @@ pub(crate) enum Said<'a> {
     Extra,
     /// The option's value is wanting.
     NoValue(&'a ShownOption),
-    /// The option stands again after it.
+    /// The option is given again after it.
     Again(&'a ShownOption),
     /// The option is a flag, and the word gives it a value.
     TakesNone(&'a ShownOption),
     /// The value is none that the option or operand takes.
     BadValue(&'a ShownOption),
-    /// Another option stands of those of which one alone may be given.
+    /// Another option is given of those of which one alone may be given.
     Apart(&'a ShownOption),
     /// A pair that a later one has a number in common with.
     Clash(&'a ShownOption),
-    /// The option stands without the one that it needs.
+    /// The option is given without the one that it needs.
     Alone(&'a ShownOption),
     /// Something is wanting.
     Missing,

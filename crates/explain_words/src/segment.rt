@@ -35,7 +35,7 @@ pub(crate) fn segment_of<'a>(table: &HelpTable, words: &'a [String]) -> &'a [Str
     words
 }
 
-/// How many words stand before the options and operands: the first word and the name, and none before the general options.
+/// How many words come before the options and operands: the first word and the name, and none before the general options.
 pub(crate) fn head_of(table: &HelpTable, own: &[String]) -> usize {
     if begins(table, word_or_none(own, 0)) {
         2

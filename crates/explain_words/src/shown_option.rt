@@ -21,7 +21,7 @@ pub struct ShownOption {
     pub many: bool,
     /// Whether it has to be given.
     pub need: Need,
-    /// Options of which one alone may be given, all in one text; nothing where any may stand beside it.
+    /// Options of which one alone may be given, all in one text; nothing where any may be given with it.
     pub choice: String,
     /// The option without which it does not go; nothing where it goes alone.
     pub with: String,

@@ -69,7 +69,7 @@ fn with_capital(word: &str) -> &'static str {
     }
 }
 
-// Whether a digit stands after the first character.
+// Whether a digit comes after the first character.
 fn is_negative(word: &str) -> bool {
     match word.as_bytes().get(1) {
         Some(digit) => digit.is_ascii_digit(),
@@ -78,7 +78,7 @@ fn is_negative(word: &str) -> bool {
 }
 
 /// Puts the option that is nearest to an unknown one, the word of this number, with those that there are, and where else it is
-/// known; and what is said of an operand that it may stand for, of a number below 0, and of a segment's first word.
+/// known; and what is said of an operand that it may be, of a number below 0, and of a segment's first word.
 pub(crate) fn put_unknown_option(
     alloc: Global,
     text: &mut String,

@@ -1,10 +1,10 @@
-//! What a segment wants.
+//! What a segment needs.
 use crate::role::{Role, role_of, stands};
 use crate::shown_option::ShownOption;
 use plugin_options::Need;
 use std::alloc::AllocError;
 
-// How many operands stand among words; each word after `--` is one.
+// How many operands are among words; each word after `--` is one.
 fn operands_in(options: &[ShownOption], words: &[String]) -> usize {
     let mut previous = "";
     let mut count = 0usize;
@@ -23,7 +23,7 @@ fn operands_in(options: &[ShownOption], words: &[String]) -> usize {
     count
 }
 
-// Whether an option of the same choice stands.
+// Whether an option of the same choice is given.
 fn choice_stands(options: &[ShownOption], row: &ShownOption, own: &[String]) -> bool {
     for other in options {
         if other.choice == row.choice && stands(other.name.as_str(), own) {
@@ -33,7 +33,7 @@ fn choice_stands(options: &[ShownOption], row: &ShownOption, own: &[String]) -> 
     false
 }
 
-// Puts a line for each option and operand that the segment has to have and that does not stand in it.
+// Puts a line for each option and operand that the segment has to have and does not have.
 fn put_needed(
     text: &mut String,
     options: &[ShownOption],

@@ -4,7 +4,7 @@ use crate::word_row::WordRow;
 use std::alloc::{AllocError, Global};
 use ts_os::put_shown;
 
-// What may stand after this word, where a row says it.
+// What may come after this word, where a row says it.
 fn said_after<'a>(rows: &'a [WordRow], previous: &str) -> Option<&'a str> {
     for row in rows {
         if row.after == previous {
@@ -15,7 +15,7 @@ fn said_after<'a>(rows: &'a [WordRow], previous: &str) -> Option<&'a str> {
 }
 
 /// What is said of the words of a command line of which the one of this number, from 0, is wrong, or is missing: the words with a
-/// mark below that one, a line that names it, one that says what may stand there, where a row has that, and how all words may stand.
+/// mark below that one, a line that names it, one that says what may be there, where a row has that, and how all words are written.
 pub fn words_text(
     alloc: Global,
     rows: &[WordRow],

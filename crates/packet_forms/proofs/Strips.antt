@@ -193,7 +193,7 @@ some-raw form i (x ∷ bytes) =
           ∙ ap (λ (l : List ℕ). x ∷ l) rest.1,
     )
 
--- of a unit what stands before its packet, the packet and what stands after it, as far as each is there
+-- of a unit what is before its packet, the packet and what is after it, as far as each is there
 part-before : (form : Form) (a n : ℕ) → a ≡ min (lead form) n → a ≤ to_packet form (0 % unit form)
 part-before Ts a n is = omega arith
 part-before M2ts a n is = omega arith
@@ -293,7 +293,7 @@ none-of-byte false x rest e = (refl, e)
 joined : (a n b d m : ℕ) → m ≡ n + 1 → a + n ≡ b → b + 1 ≡ d → a + m ≡ d
 joined a n b d m long one two = omega arith
 
--- bytes of which none is of a packet, wherever they stand in a file
+-- bytes of which none is of a packet, wherever they are in a file
 gap-nears : (form : Form) (i : ℕ) (bytes : List ℕ) → stripped_from form i bytes ≡ [] → to_packet form ((i + length bytes) % unit form) + length bytes ≡ to_packet form (i % unit form)
 unfolding stripped_from
 gap-nears form i [] none =

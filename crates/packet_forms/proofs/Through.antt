@@ -111,7 +111,7 @@ read-of form file given old new inner left origin moved same through =
     (subst (λ (f : Form). Some (stripped form file) ≡ before given (option_map (stripped_from f through.at) inner.left)) form_is
     (sym left ∙ moved ∙ ap (before given) through.left))
 
--- either way the origin is the same, and the bytes that were given stood before those that are left
+-- either way the origin is the same, and the bytes that were given were before those that are left
 pub same-origin : (old new : SourceView) (given : List ℕ) → (old ≡ unread given new) ⊎ (read_failed old ≡ unread given new) → (old.left ≡ before given new.left) × (old.origin ≡ new.origin)
 same-origin old new given (inl whole) = (ap (λ (s : SourceView). s.left) whole, ap (λ (s : SourceView). s.origin) whole)
 same-origin old new given (inr failed) = (ap (λ (s : SourceView). s.left) failed, ap (λ (s : SourceView). s.origin) failed)

@@ -1,4 +1,8 @@
 //! A source of packets over a source of units.
+//!
+//! It reads on where a read brought no byte of a packet, since `Ok(0)` is the end, and the end is that of the file. At
+//! most sixteen bytes are between two packets, so it ends. It keeps no bytes: they go into the caller's places, and are
+//! moved there once. A file that was read before is taken as one whose next byte begins a unit.
 ghost use Rattle.std.specs.Prelude.{◌≡◌, ◌<◌, ◌+◌, ℕ};
 ghost use Rattle.packet_forms.specs.Stripped.{unit, to_packet};
 ghost use Rattle.packet_forms.specs.FormView.{form_view, came, place_behind};

@@ -119,7 +119,7 @@ impl Plugin for Analyze {
     ghost preallocated = { λ s. preallocated_of s };
 
     /// The clauses are those of `Plugin`, whose ghost members have no names here, and four more: a packet on a PID on which no
-    /// table in force may come wants no memory but the room for its note, a step that runs out of memory leaves the plugin
+    /// table in force may come needs no memory but the room for its note, a step that runs out of memory leaves the plugin
     /// failed, and the room for notes and for changes stays the same.
     // Inlined, since else the loop of `steps` makes a call for each cell.
     #[inline(always)]

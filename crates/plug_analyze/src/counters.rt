@@ -1,4 +1,7 @@
 //! The continuity counters of all PIDs.
+//!
+//! `LastPackets` keeps the counter that `continuity --fix` would write too, and `analyze` has no use for it: one code
+//! for both is worth the byte.
 ghost use Rattle.std.specs.Prelude.{◌≡◌, ◌∷◌, ◌++◌, [], ℕ, List, length};
 ghost use Rattle.ts_packet.specs.declared.cell.Cell.{Cell as GivenCell};
 ghost use Rattle.ts_packet.specs.Cells.{Live};

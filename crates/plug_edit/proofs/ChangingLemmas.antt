@@ -60,14 +60,14 @@ position-cases :
 position-cases test xs true is = (refl, grind (arith, is))
 position-cases test xs false is = grind (arith, is)
 
--- where the first place of a test is told
+-- where the first place of a test is known
 pub place_found :
     {A : Type 0} (test : A → Bool) (xs : List A) (place : ℕ) → Some place ≡ position test xs → (place ≡ position_or_len test xs) × (place < length xs)
 place_found test xs place told =
     subst (λ o. MatchOption o (length xs ≤ position_or_len test xs) (λ p. (p ≡ position_or_len test xs) × (p < length xs))) (sym told)
     (position-cases test xs (nat_lt (position_or_len test xs) (length xs)) refl)
 
--- where none is told
+-- where there is none
 pub place_none : {A : Type 0} (test : A → Bool) (xs : List A) → None ≡ position test xs → length xs ≤ position_or_len test xs
 place_none test xs told =
     subst (λ o. MatchOption o (length xs ≤ position_or_len test xs) (λ p. (p ≡ position_or_len test xs) × (p < length xs))) (sym told)
@@ -81,7 +81,7 @@ changed_at test t xs place told =
     let found = place_found test xs place told in
     ap (λ i. slice_set xs i t) found.0 ∙ changed_found test t xs (omega (arith, found.0, found.1))
 
--- where no place is told, it is put last
+-- where there is no place, it is put last
 pub changed_last :
     {A : Type 0} (test : A → Bool) (change : A → A) (t : A) (xs : List A) → None ≡ position test xs →
     xs ++ t ∷ [] ≡ changed_first test change t xs
@@ -111,7 +111,7 @@ changed_seen view test test' change' fresh y d same (x ∷ xs) inside made =
     seen-step view test' change' fresh y d x xs (position_or_len test xs) (test x) (test' (view x)) (same x)
     (changed_seen view test test' change' fresh y d same xs) inside made
 
--- the same, where the place is told
+-- the same, where there is a place
 pub changed_seen_at :
     {A B : Type 0} (view : A → B) (test : A → Bool) (test' : B → Bool) (change' : B → B) (fresh : B) (y d : A) → ((x : A) → test x ≡ test' (view x)) →
     (xs : List A) (place : ℕ) → Some place ≡ position test xs → view y ≡ change' (view (slice_index_or xs place d)) →
@@ -138,7 +138,7 @@ last-seen view test test' change' t same [] none = refl
 last-seen view test test' change' t same (x ∷ xs) none =
     last-step view test' change' t x xs (position_or_len test xs) (test x) (test' (view x)) (same x) (last-seen view test test' change' t same xs) none
 
--- what is seen of a list to which a thing came last, where no place is told
+-- what is seen of a list to which a thing came last, where there is no place
 pub changed_last_seen :
     {A B : Type 0} (view : A → B) (test : A → Bool) (test' : B → Bool) (change' : B → B) (t : A) → ((x : A) → test x ≡ test' (view x)) →
     (xs : List A) → None ≡ position test xs → map view (xs ++ t ∷ []) ≡ changed_first test' change' (view t) (map view xs)
@@ -179,13 +179,13 @@ beyond [] k past = refl
 beyond (x ∷ xs) zero past = absurd (omega (arith, past))
 beyond (x ∷ xs) (suc k) past = beyond xs k (omega (arith, past))
 
--- the first that passes is the one at the place that is told
+-- the first that passes is the one at that place
 pub found_at : {A : Type 0} (test : A → Bool) (xs : List A) (place : ℕ) (d : A) → Some place ≡ position test xs → find test xs ≡ Some (get_or xs place d)
 found_at test xs place d told =
     let found = place_found test xs place told in
     find_at test xs ∙ within xs (position_or_len test xs) d (omega (arith, found.0, found.1)) ∙ ap (λ i. Some (get_or xs i d)) (sym found.0)
 
--- none passes where no place is told
+-- none passes where there is no place
 pub none_at : {A : Type 0} (test : A → Bool) (xs : List A) → None ≡ position test xs → find test xs ≡ None
 none_at test xs told = find_at test xs ∙ beyond xs (position_or_len test xs) (place_none test xs told)
 

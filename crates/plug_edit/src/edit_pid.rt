@@ -1,4 +1,7 @@
 //! Editors of the tables of one PID.
+//!
+//! On PID 8191 the editor is made all the same, for PID 0, so that its type needs no case without one; it is never
+//! asked.
 
 ghost use Rattle.std.specs.Prelude.{◌≡◌, ◌≤◌, [], None, IfOk};
 ghost use Rattle.plug_edit.specs.EditRule.{edit_rule};

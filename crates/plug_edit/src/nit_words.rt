@@ -39,7 +39,7 @@ static NIT: [OptionRow; 5] = [
         word: OptionWord::Value("network-name", Takes::Text),
         text: OptionText {
             value: "TEXT",
-            meaning: "put a network name descriptor in the place of the first, or last",
+            meaning: "replace the first network name descriptor, or put one last",
             need: Need::Free,
             beside: Beside::Any,
         },

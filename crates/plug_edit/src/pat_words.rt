@@ -32,7 +32,7 @@ static PAT: [OptionRow; 6] = [
         ),
         text: OptionText {
             value: "ID/PID,..",
-            meaning: "ID 1 to 65535, PID 0 to 8191: put the service in the place of the first entry of its number, or last",
+            meaning: "ID 1 to 65535, PID 0 to 8191: replace the first entry of the service's number, or put one last",
             need: Need::Free,
             beside: Beside::Any,
         },

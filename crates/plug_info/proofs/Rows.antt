@@ -106,7 +106,7 @@ still-clock : told (clocked 7000 ∷ clocked 7000 ∷ []) ≡ (None, 1)
 unfolding rounded field bit_of adaptation_length_of discontinuity_of has_pcr_of clock_of
 still-clock = refl
 
--- the PCR of a damaged packet is passed over: the way goes from the one before it to the one behind it
+-- the PCR of a damaged packet is passed over: the way goes from the one before it to the one after it
 abbrev damaged : ℕ → Cell
 damaged clock = Live (0x47 ∷ 0x81 ∷ 0x00 ∷ 0x30 ∷ 7 ∷ 0x10 ∷ clock_bytes (clock / 300) (clock % 300)) 0
 

@@ -149,7 +149,7 @@ json_on cells =
     (array (map (service_object cells) (services_in (pat_of (live_packets cells)))))
     (array (flat_map (pid_objects cells) (numbers_below PID_COUNT)))
 
--- the report on a list of cells in the form that is wanted
+-- the report on a list of cells in the form that is asked for
 abbrev pub report_in : Bool → List Cell → List (List ℕ)
 report_in json cells = if json then json_on cells ∷ [] else info_on cells
 

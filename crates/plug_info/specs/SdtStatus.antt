@@ -1,4 +1,4 @@
--- What the SDT says of the access to a service and of its state. ETSI EN 300 468, 5.2.3: behind the service_id and the
+-- What the SDT says of the access to a service and of its state. ETSI EN 300 468, 5.2.3: after the service_id and the
 -- two EIT flags an entry has the running_status and the free_CA_mode.
 use Rattle.std.specs.Prelude.{ℕ, List, [], ◌∷◌, Option, None, Some, if◌then◌else◌}
 use Rattle.ts_table_rows.specs.BodyReading.{first_number}

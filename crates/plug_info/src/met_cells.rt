@@ -1,4 +1,8 @@
 //! The cells that are not counted yet.
+//!
+//! A copy of each cell from the greatest mark on waits here, and goes into the tables and numbers only once it is known
+//! to count. So what `info` knows is that of a list of cells and nothing else, and no change of a table has to be kept
+//! beside the one before. A copy is 200 bytes, and the buffer has some thousands of them.
 ghost use Rattle.std.specs.Prelude.{◌≡◌, ◌∷◌, IfSome};
 
 use crate::tracker::Tracker;
@@ -7,7 +11,7 @@ use plugin_notes::push_note;
 use std::alloc::{AllocError, Global};
 use ts_packet::Cell;
 
-/// The cells from the greatest mark on, which may still stand after the cut, and the tracker of those below it.
+/// The cells from the greatest mark on, which may still be after the cut, and the tracker of those below it.
 #[derive(Drop)]
 pub struct MetCells {
     waiting: HeapCircularBuffer<Cell>,

@@ -11,7 +11,7 @@ use crate::tracker::Tracker;
 use plugin_trait::Line;
 use std::alloc::AllocError;
 
-/// Appends the report, as one JSON object if that is wanted. Out of memory it returns `AllocError`.
+/// Appends the report, as one JSON object if that is asked for. Out of memory it returns `AllocError`.
 pub fn push_report(
     lines: &mut Vec<Line>,
     cut: u64,

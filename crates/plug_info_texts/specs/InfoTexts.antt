@@ -19,7 +19,7 @@ use Rattle.plug_info_texts.specs.declared.stream_numbers.StreamNumbers.{StreamNu
 abbrev pub hex_text : List ℕ → List ℕ
 hex_text bytes = codes "0x" ++ encode_lower bytes
 
--- a text in quotation marks, if it stands there as it is, else the bytes that it was read from, as digits
+-- a text in quotation marks, if it can be there as it is, else the bytes that it was read from, as digits
 abbrev pub quoted_or_hex : List ℕ → Option (List ℕ) → List ℕ
 quoted_or_hex bytes None = hex_text bytes
 quoted_or_hex bytes (Some text) = if is_plain text then codes "\"" ++ (text ++ codes "\"") else hex_text bytes

@@ -1,6 +1,6 @@
 -- Texts that are shown as they are: none of their characters moves a terminal. The control characters are those of
 -- ISO/IEC 646, below 0x20 and 0x7F, and those of ISO/IEC 6429 from U+0080 to U+009F, which UTF-8 writes as 0xC2 and a
--- byte from 0x80 to 0x9F. RFC 8259, 7: in a string of JSON a backslash stands before a quotation mark and a backslash.
+-- byte from 0x80 to 0x9F. RFC 8259, 7: in a string of JSON a backslash comes before a quotation mark and a backslash.
 -- Which texts are shown so is this project's own rule.
 use Rattle.std.specs.Prelude.{ℕ, ◌==◌, Bool, true, not, ◌&&◌, ◌||◌, List, [], ◌∷◌, ◌++◌, nat_le, codes, if◌then◌else◌}
 use Rattle.std.specs.List.{flat_map, list_all}
@@ -32,7 +32,7 @@ is_mark character = (character == 0x22) || (character == 0x5C)
 abbrev pub has_no_mark : List ℕ → Bool
 has_no_mark text = list_all (λ byte. not (is_mark byte)) text
 
--- a text that stands in quotation marks as it is: without a control character, a quotation mark and a backslash
+-- a text that can be in quotation marks as it is: without a control character, a quotation mark and a backslash
 abbrev pub is_plain : List ℕ → Bool
 is_plain text = is_harmless text && has_no_mark text
 

@@ -78,7 +78,7 @@ fn codec_by(tag: u8, body: &[u8]) -> Option<&str>
     codec_name(tag)
 }
 
-// The letters of a format_identifier, if they may stand in quotation marks.
+// The letters of a format_identifier, if they may be in quotation marks.
 fn registered(body: &[u8]) -> Option<&str>
     ensures { option_map (λ t. t.now) result ≡ registered body.now }
 {

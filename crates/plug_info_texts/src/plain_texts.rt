@@ -37,7 +37,7 @@ pub fn is_harmless(text: &[u8]) -> bool
     true
 }
 
-/// Whether a text may stand in quotation marks as it is: it has no control character, no quotation mark and no
+/// Whether a text may be in quotation marks as it is: it has no control character, no quotation mark and no
 /// backslash.
 pub fn is_plain(text: &[u8]) -> bool
     ensures { result ≡ is_plain text.now }
@@ -55,7 +55,7 @@ pub fn has_no_mark(text: &[u8]) -> bool
     text.iter().all(|byte| !(*byte == 0x22 || *byte == 0x5C))
 }
 
-/// A text as it stands in a string of JSON: with a backslash before each quotation mark and each backslash (RFC 8259,
+/// A text as it is in a string of JSON: with a backslash before each quotation mark and each backslash (RFC 8259,
 /// 7). It is to have no control character.
 pub fn escaped(alloc: Global, text: &str) -> Result<String, AllocError>
     ensures { IfOk result (λ made. string_bytes made ≡ escaped text.now) }

@@ -8,7 +8,7 @@ use crate::plain_texts::is_plain;
 use std::alloc::{AllocError, Global};
 use ts_fields::text_of;
 
-/// Bytes as they are shown: as a text in quotation marks, if they are one that stands there as it is, else as
+/// Bytes as they are shown: as a text in quotation marks, if they are one that can be there as it is, else as
 /// hexadecimal digits.
 pub fn shown(alloc: Global, bytes: &[u8]) -> Result<String, AllocError>
     ensures { IfOk result (λ text. string_bytes text ≡ InfoTexts.shown bytes.now) }

@@ -21,7 +21,7 @@ use Rattle.plug_inject.specs.declared.inject_conf.InjectMode.TheVariants.{InterP
 use Rattle.plug_inject.specs.InjectState.{wait_among}
 use Rattle.plug_inject.proofs.TurnLemmas.{some-waits, wait-less}
 
--- the output in the place of packets after others
+-- the output instead of packets after others
 abbrev made : Injection → List (List ℕ) → List (List ℕ) → List (List ℕ)
 made how older [] = []
 made how older (packet ∷ packets) = injected how older packet ∷ made how (packet ∷ older) packets
@@ -206,7 +206,7 @@ none-before : (how : Injection) → put_in_among (replaced_among how []) ≡ 0
 unfolding replaced_among
 none-before how = refl
 
--- no packets stand before the first one
+-- no packets come before the first one
 none-first : (n : ℕ) → length {A = List ℕ} [] + n ≡ n
 none-first n = omega arith
 

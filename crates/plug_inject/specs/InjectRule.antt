@@ -73,12 +73,12 @@ abbrev pub packet_after : List (List ℕ) → ℕ → Option (List ℕ)
 packet_after contents before =
     option_map (λ packet. with_counter packet (before % 16)) (slice_get contents (before % length contents))
 
--- the output in the place of a packet, given of the packets before it whether they were replaced
+-- the output instead of a packet, given of the packets before it whether they were replaced
 abbrev pub put_for : Injection → List Bool → List ℕ → List ℕ
 put_for how marks packet =
     if is_replaced how marks packet then unwrap_or (packet_after how.contents (put_in_among marks)) packet else packet
 
--- the output in the place of a packet, given the packets before it
+-- the output instead of a packet, given the packets before it
 abbrev pub injected : Injection → List (List ℕ) → List ℕ → List ℕ
 injected how older packet = put_for how (replaced_among how older) packet
 

@@ -1,4 +1,12 @@
 //! The plugin `inject`.
+//!
+//! It is made of sections and knows no file: somebody else reads and converts it. So its rule is a function of its
+//! settings, of these sections and of the packets, and every theorem about chains holds of it without a word on files.
+//! `rule_of` of `plugin_set` has the sections as an argument for every plugin, and all others ignore it.
+//!
+//! Its packets are made before the run, and which of them comes next is given by the number of those that were put in.
+//! Its two modes are one rule: the PID of the packets that may be replaced, and how many packets before one that is
+//! were not.
 ghost use Rattle.std.specs.Prelude.{◌≡◌, ◌<◌, ◌^◌, ◌∷◌, ℕ, List, [], None, IfOk, is_some};
 ghost use Rattle.plug_inject.specs.InjectRule.{inject_rule, injected, is_replaced, replaced_among, has_packets, packet_after};
 ghost use Rattle.plug_inject.specs.InjectSettings.{IsValidInject};
@@ -11,7 +19,7 @@ use ts_packet::{Labels, NULL_PID, Packet};
 use ts_packetize::{PacketList, packets};
 use ts_section::Section;
 
-/// Inserts the packets of some sections repeatedly in the place of packets on their PID, or of null packets.
+/// Inserts the packets of some sections repeatedly instead of packets on their PID, or of null packets.
 #[derive(Drop)]
 pub struct InjectSteps {
     /// The PID of the packets that may be replaced.

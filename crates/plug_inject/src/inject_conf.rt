@@ -1,4 +1,7 @@
 //! The settings of `inject`.
+//!
+//! They are what the plugin needs, and not its options one by one: the mode has the distance in it, so that both modes
+//! at once, or none, cannot be written down.
 ghost use Rattle.std.specs.Prelude.{◌≡◌};
 ghost use Rattle.plug_inject.specs.InjectSettings.{mode_of};
 

@@ -36,7 +36,7 @@ static INJECT: [OptionRow; 4] = [
         word: OptionWord::Flag("replace"),
         text: OptionText {
             value: "",
-            meaning: "put them in the place of the packets on that PID",
+            meaning: "put them instead of the packets on that PID",
             need: Need::Required,
             beside: Beside::Choice(1),
         },
@@ -45,7 +45,7 @@ static INJECT: [OptionRow; 4] = [
         word: OptionWord::Value("inter-packet", Takes::Number(1, MOST_NUMBER)),
         text: OptionText {
             value: "N",
-            meaning: "1 to 2^60: put one in the place of a null packet where none of the N - 1 packets before it was replaced",
+            meaning: "1 to 2^60: put one instead of a null packet where none of the N - 1 packets before it was replaced",
             need: Need::Required,
             beside: Beside::Choice(1),
         },

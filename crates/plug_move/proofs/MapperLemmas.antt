@@ -38,7 +38,7 @@ named-completed met p tables fixed flag completes = record {
 pub not-fixed : (pid : ℕ) (p : List ℕ) → pid ≡ pid_of p → nat_eq pid 0 ≡ false → nat_eq pid 1 ≡ false → is_fixed (pid_of p) ≡ false
 not-fixed pid p at zero one = ap is_fixed (sym at) ∙ ap (λ b. b || nat_eq pid 1) zero ∙ one
 
--- what is told of none, or of one
+-- what a match gives for none, or for one
 pub none-told : {X : Type 0} (P : Type 0) (Q : X → Type 0) (o : Option X) → o ≡ None → MatchOption o P Q → P
 none-told P Q None e m = m
 none-told P Q (Some x) e m = cc

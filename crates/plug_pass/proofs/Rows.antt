@@ -55,7 +55,7 @@ one-of_two : (apply (filter_rule (record by_pid { pid = []; unit_start = true; s
 unfolding field bit_of adaptation_length_of has_pcr_of clock_of pcr_of
 one-of_two = refl
 
--- `filter --pid 256-257 --set-label 3`: every packet passes, and label 3 stands beside the labels that were there
+-- `filter --pid 256-257 --set-label 3`: every packet passes, and label 3 is added to the labels that were there
 abbrev sets_3 : FilterConf
 sets_3 = record by_pid { set_label = (3, 3) ∷ [] }
 

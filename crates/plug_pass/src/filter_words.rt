@@ -73,7 +73,7 @@ static FILTER: [OptionRow; 8] = [
         word: OptionWord::Flag("stuffing"),
         text: OptionText {
             value: "",
-            meaning: "put a null packet in the place of each packet that would be dropped",
+            meaning: "put a null packet instead of each packet that would be dropped",
             need: Need::Free,
             beside: Beside::Choice(1),
         },

@@ -1,4 +1,7 @@
 //! Packets with a PCR that are not counted yet, and the faults among them.
+//!
+//! They are in two buffers of the run's size. Below the mark PCRs are a number and faults are lines, which grow with
+//! the stream, so the steps are not preallocated, as those of `continuity`.
 use crate::clock_fault::ClockFault;
 use crate::clock_note::ClockNote;
 use circular_buffer::HeapCircularBuffer;

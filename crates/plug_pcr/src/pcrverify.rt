@@ -22,7 +22,7 @@ pub struct Pcrverify {
     last: LastClocks,
     /// The packets with a PCR from the greatest mark on, and the faults among them.
     noted: NotedClocks,
-    /// How many packets with a PCR stand below the mark.
+    /// How many packets with a PCR are below the mark.
     clock_count: u64,
     /// How many of them are faults.
     fault_count: u64,

@@ -12,7 +12,7 @@ pub kept-new : (entries : List Entry) (pid : ℕ) → entries ≡ [] → entries
 unfolding entries_of
 kept-new entries pid e = e ∙ sym (ap (fold with_table []) (no_tables pid))
 
--- the tables of a packet are kept behind those that were kept before
+-- the tables of a packet are kept after those that were kept before
 pub kept-more :
     (old new : List Entry) (tables : List (List (List ℕ))) (pid : ℕ) (taken : List (List ℕ)) (packet : List ℕ) → new ≡ fold with_table old tables →
     old ≡ entries_of (tables_on pid taken) → Completes pid taken packet tables → new ≡ entries_of (tables_on pid (taken ++ packet ∷ []))

@@ -21,7 +21,7 @@ in_place-same : (a b : ℕ) (row : Option (List ℕ)) → a % 16 ≡ b % 16 → 
 in_place-same a b None e = refl
 in_place-same a b (Some row) e = ap (with_counter row) e
 
--- a step of a cycle that stands before an ordinal
+-- a step of a cycle that is before an ordinal
 stands-next :
     (cycle : Cycles) (n : ℕ) (old new : CycleState) (counter : ℕ) (packet : List ℕ) (behind : ℕ) →
     NextInPlace old new counter packet behind → StandsAt cycle n old.left counter → (old.left ≡ [] → old.contents ≡ cycle n) →
@@ -36,7 +36,7 @@ stands-next cycle n old new counter packet behind step stands same =
       },
     )
 
--- a cycle that was never asked stands before the first packet
+-- a cycle that was never asked is before the first packet
 pub stands-first : (cycle : Cycles) (left : List (List ℕ)) → left ≡ [] → StandsAt cycle 0 left 0
 stands-first cycle left e =
     record { left_over = e ∙ sym (left-none cycle); counts = sym (ap (λ n. n % 16) (written-none cycle)) }
@@ -45,7 +45,7 @@ take_up_to : (xs more : List (List ℕ)) (x : List ℕ) → take (suc (length xs
 take_up_to [] more x = refl
 take_up_to (y ∷ xs) more x = ap (λ t. y ∷ t) (take_up_to xs more x)
 
--- a cycle that starts with a packet has the contents known at it, whatever comes behind
+-- a cycle that starts with a packet has the contents known at it, whatever comes after
 cycle-here :
     (pid : ℕ) (edit : List (List ℕ) → Change) (taken more : List (List ℕ)) (packet : List ℕ) →
     cycles_of pid edit (taken ++ packet ∷ more) (length taken) ≡ edited_packets pid edit (taken ++ packet ∷ [])
@@ -81,7 +81,7 @@ module _
   has : HasContents now pid (taken ++ packet ∷ [])
   has = a.took pid taken e.contents_taken completes
 
-  -- the wanted packets of the renewal are those of the edited contents
+  -- the expected packets of the renewal are those of the edited contents
   wanted : packets_of old.pid (edited_sections edit (values now.tables)) ≡ edited_packets pid edit (taken ++ packet ∷ [])
   wanted =
       ap (λ n. packets_of n (edited_sections edit (values now.tables))) e.same_pid
@@ -124,7 +124,7 @@ module _
     unchanged = λ none. a.step.same_contents ∙ renewed-is none;
   }
 
--- What is put in a packet's place is the same by the cycles of all packets, those behind it too.
+-- What is put in a packet's place is the same by the cycles of all packets, those after it too.
 pub replaced-whole :
     (pid : ℕ) (edit : List (List ℕ) → Change) (taken more : List (List ℕ)) (packet : List ℕ) →
     replaced_at (cycles_of pid edit (taken ++ packet ∷ more)) (length taken) ≡ replaced pid edit taken packet

@@ -51,7 +51,7 @@ turned a b false e = other (key_eq b a) refl
 
 -- The keys.
 
--- a key behind others, unless it is among them
+-- a key after others, unless it is among them
 with_key : List TableKey → TableKey → List TableKey
 with_key ks k = if list_any (key_eq k) ks then ks else ks ++ k ∷ []
 

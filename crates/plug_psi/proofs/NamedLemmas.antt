@@ -50,7 +50,7 @@ pub named-same : (fed : List (List ℕ)) (p : List ℕ) → SameInForce fed p �
 unfolding named_in
 named-same fed p same cat = λ i pid. has_pid (named_pids (same.pat i) (λ service. same.pmts service i) (cat i)) pid
 
--- what is told by the PIDs that the tables in force name, and by no others
+-- what the flags say by the PIDs that the tables in force name, and by no others
 pub told-named :
     (one : Reading KeptCat) (fed : List (List ℕ)) (pids : List ℕ) → HasCat one fed →
     pids ≡ named_pids (pat_of fed) (λ service. pmt_of service fed) (option_map cat_held one.follower.cat) →

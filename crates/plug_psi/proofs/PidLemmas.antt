@@ -1,4 +1,4 @@
--- The PIDs of PMTs, told one after another.
+-- The PIDs of PMTs, added one after another.
 use Rattle.std.proofs.Common.{◌≡◌, ℕ, ◌+◌, ◌<◌, ◌≤◌, List, ◌∷◌, ◌++◌, length, drop, get_or, sym, ap, ◌∙◌, append-nil, append_assoc}
 use Rattle.std.specs.Prelude.{Some}
 use Rattle.std.specs.List.{cons_option, flat_map}
@@ -15,7 +15,7 @@ pairs-next :
 pairs-next services i d pair inside is =
     ap pairs_of (drop_more services i d inside) ∙ ap (λ o. cons_option o (pairs_of (drop (i + 1) services))) is
 
--- what is told of it is added
+-- its PIDs are added
 pub added-next :
     (tell : ℕ × ℕ → List ℕ) (pids new whole : List ℕ) (services : List PatService) (i : ℕ) (d : PatService) (pair : ℕ × ℕ) → i < length services →
     service_in (service_item (get_or services i d)) ≡ Some pair → new ≡ pids ++ tell pair →

@@ -109,7 +109,7 @@ pat_run = (0x00 ∷ 0xB0 ∷ 0x0D ∷ 0x00 ∷ 0x05 ∷ 0xC9 ∷ 0x00 ∷ 0x00 �
 abbrev pat_run_2 : List (List ℕ)
 pat_run_2 = (0x00 ∷ 0xB0 ∷ 0x0D ∷ 0x00 ∷ 0x05 ∷ 0xCB ∷ 0x00 ∷ 0x00 ∷ 0x00 ∷ 0x01 ∷ 0xF0 ∷ 0x01 ∷ 0x72 ∷ 0xA9 ∷ 0x5C ∷ 0xD9 ∷ []) ∷ []
 
--- the PAT that takes the place of another stands where that stood, and the next CAT beside the current one
+-- the PAT that replaces another is where that was, and the next CAT beside the current one
 contents-row : map (λ entry. entry.1) (entries_of (pat_run ∷ cat_run ∷ next_run ∷ pat_run_2 ∷ [])) ≡ pat_run_2 ∷ cat_run ∷ next_run ∷ []
 unfolding entries_of field bit_of
 contents-row = refl

@@ -1,4 +1,4 @@
--- A descriptor that was written is told by its bits.
+-- A descriptor that was written is known by its bits.
 use Rattle.std.proofs.Common.{◌≡◌, ℕ, ◌*◌, ◌<◌, ◌≤◌, Bool, true, false, List, length, refl, sym, ap, ◌∙◌, arith}
 use Rattle.std.specs.Prelude.{nat_lt, Some, None, if◌then◌else◌}
 use Rattle.std.specs.List.{All}

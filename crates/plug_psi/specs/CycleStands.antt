@@ -13,7 +13,7 @@ InCycles edit editor pid taken = Edits pid edit editor.contents editor.cycle edi
 abbrev pub edit_of : {E : Type 0} → CycleEditor E → E
 edit_of editor = editor.edit
 
--- its own edit makes the wanted change to tables, and it stands for the packets that it processed
+-- its own edit makes the change asked for to tables, and it stands for the packets that it processed
 pub record InSeededCycles {E : Type 0} (own wanted : List (List ℕ) → Change) (editor : CycleEditor E) (pid : ℕ) (taken : List (List ℕ)) : Type 0 where
   pub same_change : own ≡ wanted
   pub stands : InCycles wanted editor pid taken

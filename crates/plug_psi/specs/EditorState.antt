@@ -22,8 +22,8 @@ pub record Edits (pid : ℕ) (edit : List (List ℕ) → Change) (contents : Con
   pub to_come : (more : List (List ℕ)) → StandsAt (cycles_of pid edit (taken ++ more)) (length taken) cycle.left counter
   pub unchanged : changed ≡ false → cycle.contents ≡ edited_packets pid edit taken
 
--- What a renewal does to a cycle, whose next contents were the wanted packets already if nothing had changed. The rest of
--- the cycle that runs stays. If no change is left over, the next cycle has the wanted packets; and if no cycle runs, no
+-- What a renewal does to a cycle, whose next contents were the expected packets already if nothing had changed. The rest of
+-- the cycle that runs stays. If no change is left over, the next cycle has the expected packets; and if no cycle runs, no
 -- change is left over.
 pub record Renewed (old new : CycleState) (changed still : Bool) (wanted : List (List ℕ)) : Type 0 where
   pub same_left : new.left ≡ old.left
@@ -31,7 +31,7 @@ pub record Renewed (old new : CycleState) (changed still : Bool) (wanted : List 
   pub begins : old.left ≡ [] → still ≡ false
   pub known : still ≡ false → (changed ≡ false → old.contents ≡ wanted) → new.contents ≡ wanted
 
--- what is put in the place of the packet with an ordinal, the counter after it, and the rest of the cycle then
+-- what is put instead of the packet with an ordinal, the counter after it, and the rest of the cycle then
 pub record PlacesAt (cycle : Cycles) (n counter : ℕ) (packet : List ℕ) (behind : ℕ) (left : List (List ℕ)) : Type 0 where
   pub placed : packet ≡ in_place counter (packet_at cycle n)
   pub counted : behind ≡ (counter + length (option_to_list (packet_at cycle n))) % 16

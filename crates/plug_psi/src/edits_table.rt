@@ -1,4 +1,8 @@
 //! Edits of the current tables of one kind.
+//!
+//! An edit is defined over the table as fields and items, the form in which tables are read and written
+//! (`TableHolding`), and not over a struct, whose ranges would have to be proved anew in each definition. The code
+//! edits the structs (`Pat`, `Cat`, ..), and one clause each ties the two: `edit_pat` and its like.
 
 ghost use Rattle.std.specs.Prelude.{◌≡◌, Option, IfOk, option_map};
 ghost use Rattle.ts_table_rows.specs.TableValues.{TableHolding};

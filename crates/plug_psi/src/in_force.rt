@@ -83,7 +83,7 @@ impl InForce {
 
     /// Processes the next packet as `feed` does. If the result is `false`, the same PAT and PMTs are in force as before;
     /// `true` says that a PAT or a PMT may have come into force with it, so what was made from them has to be made again.
-    /// A packet on a PID that is not followed wants no memory, and neither brings a table.
+    /// A packet on a PID that is not followed needs no memory, and neither brings a table.
     ///
     /// The tables that it completes on PID 0, or on a PID whose packets are taken, are returned by `take_pats` and
     /// `take_pmts`. So a caller that needs these tables too does not read them again.

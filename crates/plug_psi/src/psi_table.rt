@@ -1,4 +1,9 @@
 //! Tables that are read from runs of sections and written as such.
+//!
+//! The trait is here and not in `ts_table_rows`: tables in force and edits are all that needs it, and `ts_psi` and
+//! `ts_si` stay as they are. That this crate depends on `ts_si` for it makes no chain of crates longer, as `ts_si` is
+//! beside `ts_psi`. The crate of a plugin cannot add a kind of its own, since the trait and the table would both be of
+//! other crates.
 
 ghost use Rattle.std.specs.Prelude.{◌≡◌, ℕ, List, Result};
 ghost use Rattle.ts_table_rows.specs.RunReading.{FirstBroken, Tells};

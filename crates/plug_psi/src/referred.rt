@@ -70,7 +70,7 @@ impl Referred {
         })
     }
 
-    /// Processes the next packet, of any PID, which has a position. A packet on a PID without a table that names PIDs wants no
+    /// Processes the next packet, of any PID, which has a position. A packet on a PID without a table that names PIDs needs no
     /// memory. After `AllocError` every later call returns `AllocError`.
     #[inline]
     pub fn feed(&mut self, at: u64, packet: &Packet) -> Result<(), AllocError>

@@ -10,7 +10,7 @@ use Rattle.plug_service.specs.declared.way.Way.TheVariants.{Keep, Remove}
 use Rattle.plug_service.specs.declared.action.Action.{Action}
 use Rattle.plug_service.specs.declared.action.Action.TheVariants.{EditPat, EditSdt, EditPmt, Pass, Drop}
 
--- the fates of packets that carry PATs, and of those that carry SDTs
+-- the actions of packets that carry PATs, and of those that carry SDTs
 abbrev pub edits_pat : Action → Bool
 edits_pat EditPat = true
 edits_pat EditSdt = false
@@ -25,7 +25,7 @@ edits_sdt EditPmt = false
 edits_sdt Pass = false
 edits_sdt Drop = false
 
--- a fate of packets on another PID
+-- an action of packets on another PID
 abbrev IsOther : Action → Type 0
 IsOther EditPat = ⊥
 IsOther EditSdt = ⊥
@@ -51,7 +51,7 @@ removed_other false b c pid = chosen _
     chosen true = tt
     chosen false = tt
 
--- what the first two tests are, where the fate is known
+-- what the first two tests are, where the action is known
 chosen_first : (x y : Bool) (other action : Action) → IsOther other → (x ≡ true → y ≡ false) → action ≡ (if x then EditPat else (if y then EditSdt else other)) → (x ≡ edits_pat action) × (y ≡ edits_sdt action)
 chosen_first true y other action o apart e = (sym (ap edits_pat e), apart refl ∙ sym (ap edits_sdt e))
 chosen_first false true other action o apart e = (sym (ap edits_pat e), sym (ap edits_sdt e))
@@ -82,7 +82,7 @@ unfolding action_after
 fixed_pids Keep service packets pid action e = chosen_first (pid == 0) (pid == 17) _ action (kept_other _ _ pid) (apart pid) e
 fixed_pids Remove service packets pid action e = chosen_first (pid == 0) (pid == 17) _ action (removed_other _ _ _ pid) (apart pid) e
 
--- the fate of a PID by the tables in force after packets
+-- the action of a PID by the tables in force after packets
 pub action-after : (way : Way) (service : ℕ) (packets : List (List ℕ)) (pid : ℕ) → action_of way service (pat_of packets) (λ other. pmt_of other packets) pid ≡ action_after way service packets pid
 unfolding action_after
 action-after way service packets pid = refl

@@ -29,7 +29,7 @@ on-more pid met p = filter-append (λ packet. pid_of packet == pid) met (p ∷ [
 pub on_zero : (way : Way) (service : ℕ) (met : List (List ℕ)) (p : List ℕ) → EditPat ≡ action_after way service (met ++ p ∷ []) (pid_of p) → pid_of p ≡ 0
 on_zero way service met p e = eqb-true (pid_of p) 0 (fixed_pids way service (met ++ p ∷ []) (pid_of p) EditPat e).0
 
--- the editors behind one packet more, by its fate
+-- the editors after one packet more, by its action
 pub editors-next :
     (way : Way) (service : ℕ) (old new : Editors) (met : List (List ℕ)) (p : List ℕ) (action : Action) →
     action ≡ action_after way service (met ++ p ∷ []) (pid_of p) → EditorsStand way service old met → new.alone.service ≡ old.alone.service →

@@ -1,4 +1,4 @@
--- What is told by the flags of PIDs.
+-- What the flags of PIDs say of PIDs.
 use Rattle.std.proofs.Common.{◌≡◌, ℕ, ◌&&◌, not, List, ap, ap₂, ◌∙◌}
 use Rattle.std.specs.Prelude.{Option}
 use Rattle.ts_table_rows.specs.TableValues.{TableHolding}
@@ -8,7 +8,7 @@ use Rattle.plug_service.specs.declared.way.Way.{Way}
 use Rattle.plug_service.specs.declared.way.Way.TheVariants.{Keep, Remove}
 use Rattle.plug_psi.proofs.FlagLemmas.{and_true}
 
--- what is told by the PIDs of the service's PMT and those that are spared
+-- what the flags say by the PIDs of the service's PMT and those that are protected
 pub told-by :
     (way : Way) (service : ℕ) (pat : Option TableHolding) (pmts : ℕ → Option TableHolding) (own others : List ℕ) →
     own ≡ pids_of (pmts service) → others ≡ protected_pids way service pat pmts → (pid : ℕ) →

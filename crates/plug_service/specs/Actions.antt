@@ -67,7 +67,7 @@ action_of Remove service pat pmts pid =
 unfoldable pub action_after : Way → ℕ → List (List ℕ) → ℕ → Action
 action_after way service packets pid = action_of way service (pat_of packets) (λ other. pmt_of other packets) pid
 
--- whether packets with this fate are edited as those of PMTs
+-- whether packets with this action are edited as those of PMTs
 abbrev pub edits_pmt : Action → Bool
 edits_pmt EditPmt = true
 edits_pmt EditPat = false

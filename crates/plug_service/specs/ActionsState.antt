@@ -1,4 +1,4 @@
--- When what is kept of the fates of all PIDs stands for the tables in force.
+-- When what is kept of the actions of all PIDs stands for the tables in force.
 -- This project's own rule.
 use Rattle.std.specs.Prelude.{◌≡◌, ℕ, ◌<◌, Bool, List, [], Option}
 use Rattle.ts_packet.specs.declared.numbers.TheConstants.{NULL_PID}
@@ -31,11 +31,11 @@ pub record Stands (way : Way) (service : ℕ) (of_pmt : Option ℕ) (shared : Bo
   pub shares : shared ≡ is_shared service pat
   pub flagged : AreFlags flags (told_flag way service pat pmts)
 
--- the fates stand for this PAT and these PMTs
+-- the actions stand for this PAT and these PMTs
 abbrev pub ActionsStand : PidActions → Option TableHolding → (ℕ → Option TableHolding) → Type 0
 ActionsStand actions pat pmts = Stands actions.way actions.service actions.of_pmt actions.shared actions.flags pat pmts
 
--- the fates and the tables in force stand for the packets that were processed
+-- the actions and the tables in force stand for the packets that were processed
 pub record FollowsService (way : Way) (service : ℕ) (follower : ServiceFollower) (met : List (List ℕ)) : Type 0 where
   pub same_way : follower.actions.way ≡ way
   pub same_service : follower.actions.service ≡ service

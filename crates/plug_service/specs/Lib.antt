@@ -1,4 +1,4 @@
--- The definitions of `zap` and `svremove`: their options, the fates of packets by PID, and the edits of tables.
+-- The definitions of `zap` and `svremove`: their options, the actions of packets by PID, and the edits of tables.
 pub use Rattle.plug_psi.specs.ServicePids
 pub use Rattle.plug_psi.specs.PidFlags
 pub mod Actions

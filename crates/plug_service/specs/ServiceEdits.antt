@@ -60,7 +60,7 @@ abbrev pub sdt_change : Way → ℕ → List (List ℕ) → Change
 sdt_change Keep service run = if is_current_sdt run then edited_sdt Keep service run else away
 sdt_change Remove service run = edited_sdt Remove service run
 
--- a table that is wanted is carried as it is, and no other
+-- a table that is there is carried as it is, and no other
 abbrev pub carried_if : Option TableHolding → Change
 carried_if None = away
 carried_if (Some table) = same

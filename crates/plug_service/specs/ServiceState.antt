@@ -8,7 +8,7 @@ use Rattle.plug_service.specs.ServiceRule.{service_rule}
 use Rattle.plug_service.specs.declared.way.Way.{Way}
 use Rattle.plug_service.specs.declared.service_steps.ServiceSteps.{ServiceSteps}
 
--- tables in force, fates and editors are those of the packets
+-- tables in force, actions and editors are those of the packets
 pub record Served (way : Way) (service : ℕ) (plugin : ServiceSteps) (met : List (List ℕ)) : Type 0 where
   pub followed : FollowsService way service plugin.follower met
   pub edited : EditorsStand way service plugin.editors met

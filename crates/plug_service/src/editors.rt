@@ -61,7 +61,7 @@ impl Editors {
         self.pmts.add_changes(changes)
     }
 
-    /// Edits the packet at a position in place by its fate, and returns whether a packet passes. A packet that passes as it came in is not
+    /// Edits the packet at a position in place by its action, and returns whether a packet passes. A packet that passes as it came in is not
     /// touched. The tables on PID 0 are those that the tables in force have read. After `AllocError` the packet is as it was.
     #[inline]
     pub(crate) fn edit(

@@ -52,7 +52,7 @@ impl PidActions {
         })
     }
 
-    /// The fate of the packets on a PID.
+    /// The action of the packets on a PID.
     #[inline]
     pub(crate) fn action(&self, pid: u16) -> Action
         requires { pid < PID_COUNT }
@@ -86,7 +86,7 @@ impl PidActions {
     }
 }
 
-/// The fate of packets on PID 0 or PID 17; on any other PID it is `other`.
+/// The action of packets on PID 0 or PID 17; on any other PID it is `other`.
 #[inline]
 fn edited_first(pid: u16, other: Action) -> Action
     ensures { result ≡ Actions.edited_first pid other }
@@ -100,7 +100,7 @@ fn edited_first(pid: u16, other: Action) -> Action
     }
 }
 
-/// The fate of packets on other PIDs, if the service is kept.
+/// The action of packets on other PIDs, if the service is kept.
 #[inline]
 fn kept_action(is_of_pmt: bool, is_in_pmt: bool, pid: u16) -> Action
     requires { pid < PID_COUNT }
@@ -120,7 +120,7 @@ fn kept_action(is_of_pmt: bool, is_in_pmt: bool, pid: u16) -> Action
     }
 }
 
-/// The fate of packets on other PIDs, if the service is removed.
+/// The action of packets on other PIDs, if the service is removed.
 #[inline]
 fn removed_action(is_of_pmt: bool, is_shared: bool, is_in_pmt_alone: bool, pid: u16) -> Action
     ensures tells { result ≡ Actions.removed_action is_of_pmt is_shared is_in_pmt_alone pid }

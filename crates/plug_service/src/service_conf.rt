@@ -1,4 +1,6 @@
 //! The settings of `zap` and `svremove`.
+//!
+//! Each of the two has a struct of its own around these, since a type implements `PluginSettings` once.
 
 /// Settings of `zap` and of `svremove`.
 #[derive(Drop)]

@@ -1,4 +1,4 @@
-//! What follows one service: the tables in force, and the fates by them.
+//! What follows one service: the tables in force, and the actions by them.
 
 ghost use Rattle.std.specs.Prelude.{◌≡◌, ℕ, ◌++◌, ◌∷◌, [], List, false, IfOk, OnOk};
 ghost use Rattle.ts_packet.specs.Header.{pid_of};
@@ -37,7 +37,7 @@ impl ServiceFollower {
         Ok(ServiceFollower { force, actions })
     }
 
-    /// Processes the next packet, of any PID, which has a position, and returns its fate.
+    /// Processes the next packet, of any PID, which has a position, and returns its action.
     #[inline]
     pub(crate) fn meet(
         &mut self,
@@ -59,7 +59,7 @@ impl ServiceFollower {
     }
 }
 
-/// Renews the fates if tables came into force.
+/// Renews the actions if tables came into force.
 #[inline]
 fn renew_where(
     alloc: Global,

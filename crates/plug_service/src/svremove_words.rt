@@ -24,7 +24,7 @@ static SVREMOVE: [OptionRow; 2] = [
         word: OptionWord::Flag("stuffing"),
         text: OptionText {
             value: "",
-            meaning: "put a null packet in the place of each packet that is dropped",
+            meaning: "put a null packet instead of each packet that is dropped",
             need: Need::Free,
             beside: Beside::Any,
         },
@@ -48,7 +48,7 @@ impl PluginSettings for SvremoveConf {
     fn help() -> PluginHelp {
         PluginHelp {
             usage: "-P svremove N [--stuffing]",
-            rule: "The PAT and the SDT lose the service, and its PMT is dropped with those of its PIDs above 31 that no other service has; all else passes. It goes by the tables in force, so it follows a service whose PIDs change under a new version.",
+            rule: "The PAT and the SDT lose the service, and its PMT is dropped with those of its PIDs above 31 that no other service has; all else passes. It is driven by the tables in force, so it follows a service whose PIDs change under a new version.",
         }
     }
 

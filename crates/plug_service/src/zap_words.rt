@@ -24,7 +24,7 @@ static ZAP: [OptionRow; 2] = [
         word: OptionWord::Flag("stuffing"),
         text: OptionText {
             value: "",
-            meaning: "put a null packet in the place of each packet that is dropped",
+            meaning: "put a null packet instead of each packet that is dropped",
             need: Need::Free,
             beside: Beside::Any,
         },
@@ -48,7 +48,7 @@ impl PluginSettings for ZapConf {
     fn help() -> PluginHelp {
         PluginHelp {
             usage: "-P zap N [--stuffing]",
-            rule: "The PAT and the SDT have the service alone, its PMT stays, and so do the PIDs of its components, of its PCR and of its ECMs; all else is dropped, NIT, EIT and TDT too, also before the first PAT and PMT are complete. It goes by the tables in force, so it follows a service whose PIDs change under a new version. Of a number that the PAT does not have, an empty PAT and SDT are left.",
+            rule: "The PAT and the SDT have the service alone, its PMT stays, and so do the PIDs of its components, of its PCR and of its ECMs; all else is dropped, NIT, EIT and TDT too, also before the first PAT and PMT are complete. It is driven by the tables in force, so it follows a service whose PIDs change under a new version. Of a number that the PAT does not have, an empty PAT and SDT are left.",
         }
     }
 

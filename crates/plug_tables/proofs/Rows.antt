@@ -27,7 +27,7 @@ usual-unlisted packets = refl
 null-unwatched : (packets : List (List ℕ)) → is_watched (choice_of ((8000, 8191) ∷ [])) 8191 packets ≡ false
 null-unwatched packets = refl
 
--- with a list of table_ids, a table is told that begins with one of them; without, each is
+-- with a list of table_ids, a table is reported that begins with one of them; without, each is
 listed-told : is_told ((0x42, 0x46) ∷ []) ((0x42 ∷ []) ∷ []) ≡ true
 unfolding field bit_of
 listed-told = refl

@@ -123,7 +123,7 @@ front_late cut at (text ∷ texts) rest le none =
     take_while-cons test line (placed_at at texts ++ rest)
     ∙ ap (λ (b : Bool). if b then line ∷ take_while test (placed_at at texts ++ rest) else []) (not_below at cut le)
 
--- behind a history that is long enough there is none
+-- after a history that is long enough there is none
 placed_late : (rule : PluginRule) (cut : ℕ) (history cells : List Cell) → cut ≤ length history → take_while (λ (l : Line). nat_lt l.at cut) (placed_after rule history cells) ≡ []
 placed_late rule cut history [] le = refl
 placed_late rule cut history (Live packet labels ∷ cells) le =

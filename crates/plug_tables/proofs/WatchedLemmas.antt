@@ -18,7 +18,7 @@ no_tables choice met p tables none flag =
     ∙ (sym (drop-append_seam before [])
     ∙ ap (drop (length before)) (append-nil before ∙ sym (ap (tables_on (pid_of p)) (taken-unfollowed (is_watched choice) met p flag (pid_of p)))))
 
--- one that is watched completes those that are told
+-- one that is watched completes those that are reported
 pub some_tables : (choice : Choice) (met : List (List ℕ)) (p : List ℕ) (tables : List (List (List ℕ))) → is_watched choice (pid_of p) (met ++ p ∷ []) ≡ true
     → Completes (pid_of p) (taken_on (is_watched choice) (pid_of p) met) p tables → tables ≡ tables_with choice met p
 some_tables choice met p tables flag completes =

@@ -92,7 +92,7 @@ module _ (conf : CountConf) (notes : List Note) (tally : Tally) (history : List 
       short = w.short;
     }
 
-    -- the lines that are given out, if lines are wanted, are those of the rule
+    -- the lines that are given out, if lines are asked for, are those of the rule
     pub given_is : (b : Bool) → conf.all ≡ b → TakesBelow place_of to notes notes_new
         → (if b then map line_of_note (take_while (λ (n : Note). nat_lt (place_of n) to) notes) else []) ≡ placed_between (count_rule conf) history mark to
     given_is true all takes =

@@ -1,4 +1,7 @@
 //! The settings of `continuity` by its words.
+//!
+//! The settings of the counters are in `plugin_notes`, where `analyze` and `info` use them; this struct around them is
+//! here, since a type implements `PluginSettings` once.
 
 use plugin_notes::ContinuityConf;
 

@@ -52,7 +52,7 @@ impl Count {
     }
 }
 
-// Appends the lines of the notes below a position, if lines are wanted.
+// Appends the lines of the notes below a position, if lines are asked for.
 fn push_lines_if(
     wanted: bool,
     lines: &mut Vec<Line>,

@@ -12,7 +12,7 @@ use plugin_trait::{Line, LineText};
 use std::alloc::AllocError;
 use ts_packet::PID_COUNT;
 
-/// Appends the summary: a line for each PID that has packets, unless only the total is wanted, and then the total.
+/// Appends the summary: a line for each PID that has packets, unless only the total is asked for, and then the total.
 pub fn push_summary(
     lines: &mut Vec<Line>,
     cut: u64,

@@ -1,4 +1,4 @@
--- The rule of a plugin that outputs an earlier packet in the place of the current one. This project's own rule.
+-- The rule of a plugin that outputs an earlier packet instead of the current one. This project's own rule.
 use Rattle.std.specs.Prelude.{ℕ, List, [], ◌∷◌, ◌++◌, Bool, Option, None, Some, map, option_map, option_to_list}
 use Rattle.ts_packet.specs.declared.cell.Cell.{Cell}
 use Rattle.ts_packet.specs.declared.labelled.Labelled.{Labelled}

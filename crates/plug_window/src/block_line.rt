@@ -1,4 +1,8 @@
 //! The delay line of `compact`: a block of packets is collected while the block before it is output.
+//!
+//! Two rings, for null packets and for all others, so that no packet is looked for or moved inside: of the others a
+//! number says how many are of the block that is given, and those of the block after come after them. One window's room
+//! would do, since both rings together never have more; with two rings of the whole window no packet waits for a place.
 ghost use Rattle.std.specs.Prelude.{◌≡◌, IfOk, []};
 ghost use Rattle.plug_window.specs.BlockState.{StandsFor};
 

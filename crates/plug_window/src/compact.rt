@@ -10,7 +10,7 @@ use plugin_trait::{Outcome, Plugin, Silent, Steps};
 use std::alloc::{AllocError, Global};
 use ts_packet::{Labelled, Labels, Packet};
 
-/// Outputs the packets in blocks of the window's size, each in the place of the block after it, with its null packets
+/// Outputs the packets in blocks of the window's size, each at the positions of the block after it, with its null packets
 /// last. A packet is output with the labels that it had when it came in.
 #[derive(Drop)]
 pub struct CompactSteps {

@@ -23,7 +23,7 @@ static COMPACT: [OptionRow; 2] = [
         word: OptionWord::Flag("stuffing"),
         text: OptionText {
             value: "",
-            meaning: "put a null packet in the place of each packet that would be dropped",
+            meaning: "put a null packet instead of each packet that would be dropped",
             need: Need::Free,
             beside: Beside::Any,
         },
@@ -47,7 +47,7 @@ impl PluginSettings for CompactConf {
     fn help() -> PluginHelp {
         PluginHelp {
             usage: "-P compact --window N [--stuffing]",
-            rule: "The first N packets are dropped, and in the place of each N after them stand the N before these: first those on other PIDs than 8191, then the null packets, each in their order. The last ones stay inside; --add-stop-stuffing N brings them out.",
+            rule: "The first N packets are dropped, and each N after them are replaced by the N before these: first those on other PIDs than 8191, then the null packets, each in their order. The last ones stay inside; --add-stop-stuffing N brings them out.",
         }
     }
 

@@ -1,4 +1,6 @@
 //! The delay line of `rmorphan`: each packet is output a window later, if its PID is referred to by then.
+//!
+//! One ring of the window's size, which gives up the packet that is due as it takes the next.
 ghost use Rattle.std.specs.Prelude.{◌≡◌, IfOk, []};
 ghost use Rattle.plug_window.specs.LateState.{StandsFor};
 
@@ -39,7 +41,7 @@ impl LateLine {
     }
 
     /// Takes the packet at a position in, and returns the one that came in a window before it, if the packets up to the current one
-    /// refer to its PID. A packet on a PID without a table that names PIDs wants no memory. After `AllocError` every later call
+    /// refer to its PID. A packet on a PID without a table that names PIDs needs no memory. After `AllocError` every later call
     /// returns `AllocError`.
     #[inline]
     pub fn turn(&mut self, at: u64, came: Labelled) -> Result<Option<Labelled>, AllocError>

@@ -1,6 +1,9 @@
 //! The plugins that need later packets before they output one: `compact` and `rmorphan`, with their options. The
 //! layer above reads their settings from words, makes each plugin of its settings, and uses it by the clauses of
 //! `Plugin`.
+//!
+//! Both are delay lines (`delay_rule` of `specs/DelayRule.antt`): what is given with a packet after those that came
+//! before. Rule, line and laws are stated with that word.
 #![tactic(auto)]
 
 mod block_line;

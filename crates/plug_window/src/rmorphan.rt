@@ -55,7 +55,7 @@ impl Steps for RmorphanSteps {
     ghost preallocated = { λ s. preallocated_of s };
 
     /// The clauses are those of `Steps`, whose ghost members have no names here, and one more: a packet on a PID without a
-    /// table that names PIDs wants no memory.
+    /// table that names PIDs needs no memory.
     #[inline]
     fn step(&mut self, at: u64, packet: &mut Packet, labels: &mut Labels) -> Outcome
         requires met { MeetsCells (unmarked (MeetsHistory self.old)) at }

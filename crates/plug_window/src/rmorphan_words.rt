@@ -23,7 +23,7 @@ static RMORPHAN: [OptionRow; 2] = [
         word: OptionWord::Flag("stuffing"),
         text: OptionText {
             value: "",
-            meaning: "put a null packet in the place of each packet that is dropped",
+            meaning: "put a null packet instead of each packet that is dropped",
             need: Need::Free,
             beside: Beside::Any,
         },
@@ -47,7 +47,7 @@ impl PluginSettings for RmorphanConf {
     fn help() -> PluginHelp {
         PluginHelp {
             usage: "-P rmorphan --window N [--stuffing]",
-            rule: "In the place of each packet stands the one N before it, if its PID is 0 to 31 or 8191, or is one that the PAT, the PMTs of its services or the CAT in force by then name; else none. The last N stay inside; --add-stop-stuffing N brings them out.",
+            rule: "Each packet is replaced by the one N before it, if the PID of that one is 0 to 31 or 8191, or is one that the PAT, the PMTs of its services or the CAT in force by then name; else by none. The last N stay inside; --add-stop-stuffing N brings them out.",
         }
     }
 

@@ -9,7 +9,7 @@ ghost use Rattle.plug_window.specs.Slots.{outcome_word};
 use plugin_trait::Outcome;
 use ts_packet::{Labelled, Labels, Packet};
 
-/// Puts the packet that is output in the place of a packet. If there is none, the packet is dropped, or with `stuffing`
+/// Puts the packet that is output instead of a packet. If there is none, the packet is dropped, or with `stuffing`
 /// becomes a null packet and keeps its labels.
 #[inline]
 pub(crate) fn fill_slot(

@@ -1,4 +1,7 @@
 //! The settings of `compact` and `rmorphan`.
+//!
+//! They have one reader and one row of options. Each of the two has a struct of its own around these settings, since a
+//! type implements `PluginSettings` once.
 
 /// Settings of `compact` and of `rmorphan`, which output packets a window of packets later.
 #[derive(Drop)]

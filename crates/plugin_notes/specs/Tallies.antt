@@ -3,7 +3,7 @@ use Rattle.std.specs.Prelude.{◌≡◌, ◌<◌, ◌^◌, ◌==◌, ℕ, List, 
 use Rattle.ts_packet.specs.declared.numbers.TheConstants.{PID_COUNT}
 use Rattle.plugin_notes.specs.declared.tally.Tally.{Tally}
 
--- the counts say how often each PID stands in the list, and the total is the length of the list
+-- the counts say how often each PID is in the list, and the total is the length of the list
 pub record IsTally (counts : List ℕ) (total : ℕ) (pids : List ℕ) : Type 0 where
   pub whole : length counts ≡ PID_COUNT
   pub each : (pid : ℕ) → pid < PID_COUNT → slice_index counts pid ≡ count_by (λ q. q == pid) pids

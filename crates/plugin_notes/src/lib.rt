@@ -1,4 +1,4 @@
-//! What plugins that check packets share: notes on packets, kept for as long as these may stand after the cut, their
+//! What plugins that check packets share: notes on packets, kept for as long as these may be after the cut, their
 //! lines, counts by PID, and the continuity counters of all PIDs with their errors. A packet or a PID comes in; a
 //! line, a count or an error goes out. The layer above keeps them beside its own state; `TakesBelow`, `IsCounted` and
 //! `Remembers` relate them to the cells that were processed.

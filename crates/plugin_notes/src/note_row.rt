@@ -1,5 +1,5 @@
 //! Notes on packets that are not counted yet, in a buffer of a fixed size, oldest first. A note leaves the buffer
-//! once its packet stands before the mark, or before the cut.
+//! once its packet is before the mark, or before the cut.
 ghost use Rattle.std.specs.Prelude.{◌≡◌, ◌<◌, ◌≤◌, ◌+◌, ◌∷◌, ◌++◌, [], IfSome, IfNone, IfOk, OnOk, OnErr, IsErr, IsOk, None, length, map, nat_lt, option_to_list};
 ghost use Rattle.std.specs.List.{take_while};
 ghost use Rattle.plugin_notes.specs.NotesKept.{StartsFrom, TakesBelow};

@@ -1,4 +1,11 @@
 //! A plugin of the chain, of any kind and with its labels.
+//!
+//! A plugin of a chain is three types, one in the other. `SomePlugin` is one of the plugins that there are: its methods
+//! ask which one it is, and their proofs are by cases. `MaskedPlugin` shows any plugin only the cells that it is to
+//! see, and is proved once, from the clauses of `Plugin`. `AnyPlugin` is the type that the layers above name: it has no
+//! parameter, its constructor says which rule an item means, and it gives a plugin that sees every packet the whole
+//! window in one call. Without it each function above would name the nested type, and its proof would write out what
+//! that type's bound means.
 
 ghost use Rattle.std.specs.Prelude.{◌≡◌, IfOk, []};
 ghost use Rattle.plugin_set.specs.Items.{rule_of_item};

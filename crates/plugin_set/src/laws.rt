@@ -19,8 +19,8 @@ pub fn only_named_sections_count()
         → table_file_of conf ≡ None → rule_of conf one ≡ rule_of conf other }
 {}
 
-/// A silent plugin (`is_silent`) has a rule with neither lines nor a summary, whether it goes by labels or not. Its
-/// `finish` is `Ok`, since `AnyPlugin::of` makes it silent. A law; it runs nothing.
+/// A silent plugin (`is_silent`) has a rule with neither lines nor a summary, whether it uses labels or not. Its `note`
+/// and its `summary` are `Ok`, since `AnyPlugin::of` makes it silent. A law; it runs nothing.
 pub fn silent_plugins_report_nothing()
     ensures { (item : PluginItem) (sections : List (List ℕ))
         → is_silent item.conf ≡ true → IsSilent (rule_of_item item sections) }

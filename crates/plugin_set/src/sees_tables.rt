@@ -1,12 +1,12 @@
-//! Plugins that go by tables, and the tables that change without a new version before them.
+//! Plugins that are driven by tables, and the tables that change without a new version before them.
 
 use crate::some_plugin::SomePlugin;
 use plug_psi::Changes;
 use std::alloc::AllocError;
 
-/// A plugin that may go by tables. It explains a run, and no rule rests on it.
+/// A plugin that may be driven by tables. It explains a run, and no rule rests on it.
 pub trait SeesTables {
-    /// Adds the PIDs on which tables changed without a new version, where the plugin is one that goes by them. After
+    /// Adds the PIDs on which tables changed without a new version, where the plugin is one that is driven by them. After
     /// the report it knows all packets before the cut.
     fn add_changes(&self, changes: &mut Changes) -> Result<(), AllocError>;
 }

@@ -40,13 +40,13 @@ finds_after-one test history Dropped = refl
 
 -- ---- the kept position
 
--- cuts that are not beyond the cells of before are told the same
+-- cuts that are not beyond the cells of before have the same answer
 below-same : (old : Option ℕ) (n : ℕ) (finds : Bool) (cut : ℕ) → cut ≤ n → none_below old cut ≡ none_below (first_of old n finds) cut
 below-same None n true cut le = sym (le-leb cut n le)
 below-same None n false cut le = refl
 below-same (Some first) n finds cut le = refl
 
--- and the cut behind the new cell
+-- and the cut after the new cell
 below-more : (old : Option ℕ) (n : ℕ) (finds before : Bool) → IfSome old (λ first. first < n) → not before ≡ none_below old n
     → not (before || finds) ≡ none_below (first_of old n finds) (n + 1)
 below-more None n true true met e = absurd (true≢false (sym e))

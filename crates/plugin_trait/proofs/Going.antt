@@ -33,7 +33,7 @@ apply_after-drop rule history given i cell within is =
 module _ (rule : PluginRule) (history given made : List Cell) (i : ℕ) (cell : Cell) (all : StageList)
     (within : i < length given) (is : get_or given i cell ≡ cell)
     (half : all ≡ behind (take i made) (apply_after rule (history ++ take i given) (drop i given))) where
-  -- what is known of the whole list where the fate of its next cell is known
+  -- what is known of the whole list where the outcome of its next cell is known
   pub half_known : (action : CellOutcome) → became rule (history ++ take i given) cell ≡ action
       → all ≡ behind (take i made) (onto action (apply_after rule (history ++ take (i + 1) given) (drop (i + 1) given)))
   half_known action e =
@@ -79,7 +79,7 @@ pub met_goes_on : (history : List Cell) (cell : Cell) (outcome : Outcome)
 met_goes_on history cell outcome one =
     elim one [ inl e ↦ ap (λ (o : Outcome). met_after o history cell) e | inr e ↦ ap (λ (o : Outcome). met_after o history cell) e ]
 
--- the same element stands at a place of two lists that agree from there on
+-- the same element is at a place of two lists that agree from there on
 pub same_at : (xs ys : List Cell) (i : ℕ) (d : Cell) → drop i xs ≡ drop i ys → get_or xs i d ≡ get_or ys i d
 same_at xs ys i d same =
     ap (λ (n : ℕ). get_or xs n d) (sym (add-zero i)) ∙ (sym (get_or-drop i xs 0 d) ∙ (ap (λ (zs : List Cell). get_or zs 0 d) same ∙ (get_or-drop i ys 0 d ∙ ap (λ (n : ℕ). get_or ys n d) (add-zero i))))
@@ -93,7 +93,7 @@ same_after xs ys i left same =
 pub read_at : (xs ys : List Cell) (i : ℕ) (d : Cell) → d ≡ get_or xs i d → drop i xs ≡ drop i ys → get_or ys i (get_or xs i d) ≡ get_or xs i d
 read_at xs ys i d is same = ap (λ (e : Cell). get_or ys i e) (sym is) ∙ sym (same_at xs ys i d same)
 
--- and from that place on nothing is changed where what stood there is put back
+-- and from that place on nothing is changed where what was there is put back
 pub left_as_it_was : (xs ys : List Cell) (i : ℕ) (d left : Cell) → left ≡ get_or xs i d → drop i xs ≡ drop i ys → drop i (set xs i left) ≡ drop i ys
 left_as_it_was xs ys i d left back same = ap (λ (x : Cell). drop i (set xs i x)) back ∙ (ap (drop i) (set-get_or xs i d) ∙ same)
 

@@ -1,4 +1,22 @@
 //! The trait of all plugins.
+//!
+//! `steps` has a body here, a loop over `meet` that is proved once for every plugin, and is compiled for each with its
+//! own `step` in it: so the kind of the plugin, and whether it has labels, is asked once a window and not at each
+//! packet. A plugin may write a `steps` of its own, and then owes the same clauses.
+//!
+//! A step takes the packet and its labels, and not the cell: that a dropped cell stays dropped, and that `Drop` leaves
+//! one, is written once in `meet`, and no plugin can get it wrong. A position whose packet was dropped before is met by
+//! `pass_over`, which is empty in every plugin so far; no body in the trait could show that of every type.
+//! `--only-label` passes over what it hides, so no dropped cell has to be made up for it.
+//!
+//! A plugin may be asked again after a stop, a refusal or a last packet: its rule is defined for every list of cells.
+//! It runs out of memory only on a live cell, and stands for its old mark then.
+//!
+//! Lines are given out at a mark: those from the mark before it up to this one (`note`); the summary is asked for at a
+//! mark without changing it. A plugin keeps no lines itself; its stage does, until the report. All lines up to a mark
+//! are made before a note is taken off, so a plugin that had no memory for one of them stands for its old mark, with
+//! the notes that it had, and has given out none. It may forget what it noted before the mark, so it is given no cut
+//! below the last one.
 
 use crate::driver::note_agreement;
 use crate::{Applied, Line, ListEnd, Outcome};

@@ -315,7 +315,7 @@ module _ {S : Type 0} (seen : S → SourceView) where
       (λ input continues. longer_over how new.nulls (length continues.rest) (λ is. lost (over.ended ∙ ap Some is)))
       tt
 
-  -- an input that wants a read has read no whole packet that it did not put
+  -- an input that needs a read has read no whole packet that it did not put
   read-few : (feed : PacketFeed S) (first : SourceView) (read : List ℕ) (rows : List (List ℕ)) (ended : Option InputEnd) (n : ℕ)
       → FeedStands seen feed first read rows ended → WantsMore feed → length rows ≤ n → length read ≤ 188 * (n + 1)
   read-few (Stream stream) first read rows ended n stands wants put =
@@ -329,7 +329,7 @@ module _ {S : Type 0} (seen : S → SourceView) where
   read-few (Nulls nulls) first read rows ended n stands wants put = absurd wants
   read-few (Generated generated) first read rows ended n stands wants put = absurd wants
 
-  -- an input that filled its window, or gave some cells and wants a read
+  -- an input that filled its window, or gave some cells and needs a read
   pub works_filled : (old new : InputStage S) (lists : PartLists) (news : News) (cells cells_new : List Cell) (at written done : ℕ)
       → MayWork (InputStands seen old) at written lists → at + length cells ≤ 2 ^ 60 → at ≢ 2 ^ 60 → length cells_new ≡ length cells → done ≤ length cells → FillsWindow new (length cells) done
       → ((lists : PartLists) → InputHolds seen old lists → InputGoes seen old new lists (length cells) (take done cells_new))

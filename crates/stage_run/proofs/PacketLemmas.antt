@@ -79,7 +79,7 @@ packets_of-rows rows rest are =
 pub fuel-some : (rows : List (List ℕ)) (rest : List ℕ) → All IsPacket rows → 0 < length rest → 0 < fuel_after rows rest
 fuel-some rows rest are some = omega (arith, length-concat rows are, length-append (concat rows) rest)
 
--- where no packet stands in front of the rest they are the rows alone
+-- where no packet is in front of the rest they are the rows alone
 pub packets_of-all : (rows : List (List ℕ)) (rest : List ℕ) → All IsPacket rows → is_packet_in_front rest ≡ false
     → packets_of (concat rows ++ rest) ≡ rows
 packets_of-all rows rest are none =

@@ -1,4 +1,4 @@
--- Bytes in hand: how they grow by a read, what stands in front of them, and how a packet is put.
+-- Bytes in hand: how they grow by a read, what is in front of them, and how a packet is put.
 use Rattle.std.proofs.Common.{◌≡◌, ℕ, ◌+◌, ◌-◌, ◌*◌, ◌<◌, ◌≤◌, List, [], ◌∷◌, ◌++◌, length, take, drop, refl, ap, sym, ◌∙◌, arith, length-append, length-take, length-drop, append_assoc, append-nil, subst, Vec, None, Some, take-add, vec_len}
 use Rattle.std.specs.Vec.{with_items}
 use Rattle.std.specs.Option.{IfSome}

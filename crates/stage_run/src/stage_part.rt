@@ -1,4 +1,7 @@
 //! A stage of any kind: an input, a plugin or an output.
+//!
+//! What a stage reads into and writes from is allocated once, before the run, and its work takes no memory. An input
+//! that may end by following does so before it reads again.
 
 use crate::{
     InputPart, InputStage, IoBuffer, OutputPart, OutputStage, PluginStage, Stuffing, Work,

@@ -1,4 +1,7 @@
 //! The stuffing of an input.
+//!
+//! A struct of the code, and a record of the model, tied in one place (`stuffing_of`): one for both would have to know
+//! the other's numbers of 32 bits.
 
 /// The null packets that the input puts in.
 #[derive(Clone, Copy, PartialEq, Eq)]

@@ -31,7 +31,7 @@ output_of out.Drop = dropped
 abbrev pub given_of : Reading → Given
 given_of r = record { cycle = r.cycle; buffer = r.buffer; inputs = r.inputs.items; output = output_of r.output }
 
--- the word may stand there, and the new reading is what is given and expected after it; or it may not
+-- the word may be there, and the new reading is what is given and expected after it; or it may not
 abbrev pub Went : Reading → List ℕ → Bool → Reading → Type 0
 Went old word true new = step (given_of old) (expected_of old.expected) word ≡ Some (place (given_of new) (expected_of new.expected))
 Went old word false new = step (given_of old) (expected_of old.expected) word ≡ None

@@ -123,7 +123,7 @@ pub record EndsIn (files : List (List ℕ × List ℕ)) (names : List PlayName) 
   pub reported_is : ReportsText old new (report_to (lists_of files behind) play.input n end)
   pub read : end ≡ Input how.ReadFault → GivesRead output (file_of files play.name) old new behind play n
 
--- an output was wanted and could not be opened; that is all that is reported
+-- an output was asked for and could not be opened; that is all that is reported
 abbrev pub MissesOutput : Option (List ℕ) → DeskView → DeskView → Type 0
 MissesOutput output old new = (name : List ℕ) × (failed : Bool) × (output ≡ Some name)
     × Says (asked_in_vain old purpose.Output name) new (codes "tsswitch: cannot open output" ++ 10 ∷ []) failed

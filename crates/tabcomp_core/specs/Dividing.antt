@@ -13,7 +13,7 @@ abbrev pub shared_fields : List ℕ → List ℕ
 shared_fields s =
     table_id_of s ∷ extension_of s ∷ version_of s ∷ (if current_of s then 1 else 0) ∷ last_number_of s ∷ []
 
--- whether a section may stand at a place of the run that `first` begins
+-- whether a section may be at a place of the run that `first` begins
 abbrev pub is_member : List ℕ → ℕ → List ℕ → Bool
 is_member first place s =
     not (stands_alone s) && (bytes_eq (shared_fields s) (shared_fields first)

@@ -15,7 +15,7 @@ head_text = codes "{\"#name\":\"tsduck\",\"#nodes\":["
 abbrev pub tail_text : List ℕ
 tail_text = codes "]}"
 
--- children, each after a comma where others stand before it
+-- children, each after a comma where others come before it
 abbrev pub children_text : Bool → List Data → List ℕ
 children_text later [] = []
 children_text later (d ∷ ds) = comma_if later ++ (compact_text d ++ children_text true ds)

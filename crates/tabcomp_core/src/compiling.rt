@@ -1,4 +1,7 @@
 //! Compiling: from a JSON text to the sections of its tables.
+//!
+//! What is compiled is a `Vec<u8>`, and what is decompiled a `String`. Types of their own around them would say no
+//! more: a clause sees the bytes of both, and who writes them into a file needs bytes.
 
 ghost use Rattle.std.specs.Prelude.{◌≡◌, ◌++◌, map, option_map, if◌then◌else◌, Some, None, All, OnOk, IfOk};
 ghost use Rattle.std.specs.Str.{is_utf8};

@@ -1,4 +1,9 @@
 //! Decompiling: from bytes to the JSON text of their tables.
+//!
+//! The text is written table by table, so that one element is held at a time and not all: what comes before the tables,
+//! the commas and what comes after are written here, and each table's element by `serde_json`. The text is proved to be
+//! the compact text of the whole. That it is read as the whole is shown from what each element's own text says
+//! (`IsReadWithin`), by the lemmas of `json` on tokens; so this crate names `json`, and calls no code of it.
 
 ghost use Rattle.std.specs.Prelude.{◌≡◌, ◌++◌, List, ℕ, false, All, map, Ok, IfOk, OnOk, string_bytes};
 ghost use Rattle.serde_json.specs.View.{view};

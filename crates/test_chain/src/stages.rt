@@ -227,7 +227,7 @@ enum Feed {
 /// The PIDs of the packets of two cells; `None` for a dropped cell. A `static` holds no array of these.
 type Pids = (Option<u16>, Option<u16>);
 
-/// An input behind `start` packets of start stuffing; what it does with three windows, the PIDs of the packets in
+/// An input after `start` packets of start stuffing; what it does with three windows, the PIDs of the packets in
 /// these, and how many packets it has afterwards if it has no source.
 #[derive(Drop)]
 struct InputRow {
@@ -374,7 +374,7 @@ macro_rules! input_rows {
 }
 
 /// A file is read in full windows. What one read gave is handed on. A packet is complete after two reads. One read gives
-/// a packet and a half, and the next the rest and one more. Stuffing comes first. A read fails behind the first window.
+/// a packet and a half, and the next the rest and one more. Stuffing comes first. A read fails after the first window.
 /// Null packets and generated ones end.
 static INPUTS: [InputRow; 8] = input_rows![
     file!(4, 1000, 0), 0,

@@ -71,7 +71,7 @@ fn shown_key_rows() -> &'static [JsonRow] {
 fn name_rows() -> &'static [JsonRow] {
     static ROWS: [JsonRow; 2] = [
         JsonRow {
-            about: "a name that may not stand there",
+            about: "a name that may not be there",
             path: &[0, 1],
             key: "#name",
             kind: JsonKind::UnknownKey,

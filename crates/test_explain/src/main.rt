@@ -1,4 +1,4 @@
-//! Prints what refused command lines of `tsp` are told, the words of each and the text; and then what is said of texts of tables that
+//! Prints what is said of refused command lines of `tsp`, the words of each and the text; and then what is said of texts of tables that
 //! were not compiled, and of bytes that were not decompiled, what each row is about and the text. The texts were written by hand, and
 //! are the only statement of what is said. At the end stands what is said of each segment, of which tools/texts makes the texts of help.
 #![tactic(auto)]

@@ -4,7 +4,7 @@ use explain_words::WordRow;
 /// How the words may stand.
 pub(crate) const USAGE: &str = "[--cycle N] -I file NAME";
 
-/// What may stand after a word.
+/// What may come after a word.
 pub(crate) fn may_stand() -> &'static [WordRow] {
     static ROWS: [WordRow; 2] = [
         WordRow {
@@ -19,7 +19,7 @@ pub(crate) fn may_stand() -> &'static [WordRow] {
     &ROWS
 }
 
-/// A command line, how it is told from others, and the number of its wrong word.
+/// A command line, how it differs from others, and the number of its wrong word.
 pub(crate) struct PlaceRow {
     pub(crate) about: &'static str,
     pub(crate) words: &'static str,

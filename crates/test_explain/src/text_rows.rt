@@ -22,7 +22,7 @@ pub(crate) fn text_rows() -> &'static [TextRow] {
             file: b"<?xml version=\"1.0\"?>",
         },
         TextRow {
-            about: "XML behind a blank",
+            about: "XML after a blank",
             file: b"\n<tsduck>",
         },
         TextRow {

@@ -45,7 +45,7 @@ fn fields_of_a_null_packet(rt: HostRuntime) {
     }
 }
 
-/// Checks the bytes after 64 bits are put behind the first five.
+/// Checks the bytes after 64 bits are put after the first five.
 fn are_put(rt: &impl Abort, row: &mut [u8]) {
     let put = put_bits(row, 5, 64, 0x0123_4567_89AB_CDEF);
     same(rt, put, Ok(()));

@@ -119,7 +119,7 @@ fn jump(rt: &(impl Abort + AllocGlobal), list: &[Packet]) {
     counts(rt, &mut demux, &list[1], 5, 0);
 }
 
-/// Checks that the section is told once where the first packet comes twice.
+/// Checks that the section is given once where the first packet comes twice.
 fn come_twice(rt: &(impl Abort + AllocGlobal), list: &[Packet]) {
     are_so_many(rt, list.len(), 2);
     let mut demux = got(rt, Demux::new(rt.alloc(), PID));

@@ -165,7 +165,7 @@ fn passes(
     Ok(())
 }
 
-/// A filter passes a PID, a skip drops the first packets, and a slice goes by where its parts start.
+/// A filter passes a PID, a skip drops the first packets, and a slice uses where its parts start.
 #[test]
 fn plugins_pass_and_drop(rt: HostRuntime) -> Result<(), Fail> {
     for (passing, letters, end) in shapes() {

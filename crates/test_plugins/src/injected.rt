@@ -1,4 +1,4 @@
-//! Tests of `inject`: the packets of one PAT in the place of null packets and of packets on a PID.
+//! Tests of `inject`: the packets of one PAT instead of null packets and of packets on a PID.
 
 ghost use Rattle.plug_inject.specs.InjectSettings.{IsValidMode};
 

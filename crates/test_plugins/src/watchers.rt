@@ -22,7 +22,7 @@ fn packet(pid: u16, counter: u8) -> Cell
     Cell::of(packet, Labels::none())
 }
 
-/// How a plugin ends a list of cells, and its report on those of the cells that stand before the cut.
+/// How a plugin ends a list of cells, and its report on those of the cells that are before the cut.
 fn run<P: Plugin + Drop>(
     alloc: Global,
     plugin: Result<P, AllocError>,

@@ -148,7 +148,7 @@ static TOO_LATE: [Option<u16>; 8] = [
     Some(NULL_PID),
 ];
 
-/// A table in the window counts, and one behind the window comes too late.
+/// A table in the window counts, and one after the window comes too late.
 #[test]
 fn a_window_keeps_what_its_tables_name(rt: HostRuntime) -> Result<(), Fail> {
     are_on(&rt, &kept(rt.alloc(), 3, false)?, &IN_THE_WINDOW);

@@ -26,7 +26,7 @@ static ROWS: [MeetingRow; 3] = [
         read: 1,
     },
     MeetingRow {
-        name: "a read of the input behind the last one that is played has failed",
+        name: "a read of the input after the last one that is played has failed",
         words: "-I file lost -I file many -O file C",
         plan: DeskPlan {
             reads: &[3],
@@ -35,7 +35,7 @@ static ROWS: [MeetingRow; 3] = [
         read: 3,
     },
     MeetingRow {
-        name: "the input behind the last one that is played has lost sync",
+        name: "the input after the last one that is played has lost sync",
         words: "-I file lost -I file lost -O file C",
         plan: ORDINARY,
         read: 2,

@@ -42,12 +42,12 @@ static PLAY_ROWS: [Row; 10] = [
         },
     },
     Row {
-        name: "lost sync in the first input, and the next one is lawful",
+        name: "lost sync in the first input, and the next one is valid",
         words: "-I file lost -I file A -O file C",
         plan: ORDINARY,
     },
     Row {
-        name: "lost sync in the second input, and another round behind it",
+        name: "lost sync in the second input, and another round after it",
         words: "--cycle 2 -I file A -I file lost -O file C",
         plan: ORDINARY,
     },

@@ -7,7 +7,7 @@ use std::thread::Threads;
 use test_tools::{ORDINARY, Page};
 
 /// Each of these lists but the last three has its first fault at another word or for another reason. The last three
-/// stand at the limits of the form.
+/// are at the limits of the form.
 static WORDS: [&str; 43] = [
     "",
     "-O drop",

@@ -68,7 +68,7 @@ fn calls(rt: &(impl Abort + AllocGlobal), failing: u64, code: u8, reported: &[u8
     has_written(rt, &*desk, reported);
 }
 
-/// The text is written, and a failing close is told.
+/// The text is written, and a failing close is reported.
 #[test]
 fn the_canonical_text_is_written(rt: HostRuntime) {
     calls(&rt, 9, 0, b"");

@@ -5,17 +5,17 @@ ghost use Rattle.std.specs.Prelude.{◌≡◌, Ok};
 use std::fmt::Debug;
 use std::process::Abort;
 
-/// Checks that a value is the wanted one.
+/// Checks that a value is the expected one.
 pub(crate) fn same<T: Copy + PartialEq + Debug>(rt: &impl Abort, found: T, wanted: T) {
     assert_eq!(rt; found, wanted);
 }
 
-/// Checks that bytes are the wanted ones.
+/// Checks that bytes are the expected ones.
 pub(crate) fn same_bytes(rt: &impl Abort, found: &[u8], wanted: &[u8]) {
     assert_eq!(rt; found, wanted);
 }
 
-/// Checks that a text is the wanted one.
+/// Checks that a text is the expected one.
 pub(crate) fn same_text(rt: &impl Abort, found: &str, wanted: &str) {
     assert_eq!(rt; found, wanted);
 }

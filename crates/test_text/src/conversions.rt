@@ -44,7 +44,7 @@ fn a_text_is_compiled(rt: HostRuntime) {
     same(&rt, cut, Err(short(16, 5)));
 }
 
-/// Texts whose service has an unknown key, and the number 0; and what is told of them.
+/// Texts whose service has an unknown key, and the number 0; and what is said of them.
 static FAULTS: [(&[u8], &str, JsonKind); 2] = [
     (
         br##"{"#name":"tsduck","#nodes":[{"#name":"PAT","transport_stream_id":1,"#nodes":[{"#name":"service","service_id":1,"program_map_PID":"0x1000","extra":1}]}]}"##,

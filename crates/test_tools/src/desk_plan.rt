@@ -6,7 +6,7 @@ use std::alloc::{AllocError, Global};
 use ts_outside::{FailPlan, NumberList};
 
 /// Which calls of a desk fail, each kind counted from 1, how many bytes one call moves, and how many the desk holds: a
-/// `FailPlan` that stands in a table of rows.
+/// `FailPlan` that is in a table of rows.
 #[derive(Clone, Copy)]
 pub struct DeskPlan {
     /// The files of tables and the openings of inputs and outputs that fail, counted together.
@@ -64,7 +64,7 @@ impl DeskPlan {
     }
 }
 
-/// Puts numbers in the place of a list. Out of memory it returns `AllocError`.
+/// Replaces a list by numbers. Out of memory it returns `AllocError`.
 fn set(alloc: Global, list: &mut NumberList, calls: &[u64]) -> Result<(), AllocError> {
     *list = NumberList::of(Vec::from_slice(alloc, calls)?);
     Ok(())

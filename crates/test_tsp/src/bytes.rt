@@ -38,19 +38,19 @@ impl Bytes {
         }
     }
 
-    /// Appends the 184 bytes behind a header, which count up from the least one.
+    /// Appends the 184 bytes after a header, which count up from the least one.
     pub(crate) fn count_up(&mut self, least: u8) {
         for k in 0..184u8 {
             self.push(least.wrapping_add(k));
         }
     }
 
-    /// Leaves out the bytes behind the first ones.
+    /// Leaves out the bytes after the first ones.
     pub(crate) fn truncate(&mut self, len: usize) {
         self.bytes.truncate(len);
     }
 
-    /// Puts a byte in the place of another one.
+    /// Replaces a byte by another one.
     pub(crate) fn put(&mut self, place: usize, byte: u8) {
         if let Some(old) = self.bytes.get_mut(place) {
             *old = byte;

@@ -8,7 +8,7 @@ pub(crate) struct Chain {
     pub(crate) plugins: &'static str,
 }
 
-/// Together they use each plugin that goes by packets alone, all over the same mixed stream.
+/// Together they use each plugin that uses packets alone, all over the same mixed stream.
 pub(crate) static CHAINS: [Chain; 7] = [
     Chain {
         name: "filter, skip and count",
@@ -21,12 +21,12 @@ pub(crate) static CHAINS: [Chain; 7] = [
         plugins: "-P slice --drop 10 --pass 20 --null 45 -P pattern C0FFEE --pid 257 --offset-pusi 3 -P continuity",
     },
     Chain {
-        name: "until counts unit starts behind remap",
+        name: "until counts unit starts after remap",
         general: "",
         plugins: "-P remap --no-psi 256=600 257=601 -P until --unit-start-count 7 -P count --all --pid 601",
     },
     Chain {
-        name: "remap refuses a packet behind filter",
+        name: "remap refuses a packet after filter",
         general: "",
         plugins: "-P count --total -P filter --unit-start --pid 256 --negate --stuffing -P remap --no-psi 256=512",
     },

@@ -55,7 +55,7 @@ static END_ROWS: [Row; 16] = [
         plan: ORDINARY,
     },
     Row {
-        name: "no stop nulls behind lost sync",
+        name: "no stop nulls after lost sync",
         words: "--add-stop-stuffing 3 -I file in -O file out",
         input: Input::Lost(&[256, 256, 256], 376),
         plan: ORDINARY,

@@ -43,7 +43,7 @@ static READ_ROWS: [Row; 6] = [
         },
     },
     Row {
-        name: "filter, and the read fails that would have told the end",
+        name: "filter, and the read fails that would have shown the end",
         words: "-I file in -P filter --pid 256 -O file out",
         input: Input::Pids(&THREE),
         plan: DeskPlan {

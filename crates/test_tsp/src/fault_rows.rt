@@ -60,7 +60,7 @@ static RUN_ROWS: [Row; 6] = [
         },
     },
     Row {
-        name: "no stop nulls behind a failing read",
+        name: "no stop nulls after a failing read",
         words: "--add-stop-stuffing 3 -I file in -O file out",
         input: Input::Pids(&FIVE),
         plan: DeskPlan {
@@ -87,7 +87,7 @@ static RUN_ROWS: [Row; 6] = [
         },
     },
     Row {
-        name: "a failing write behind a plugin",
+        name: "a failing write after a plugin",
         words: "-I file in -P count -O file out",
         input: Input::Pids(&FIVE),
         plan: DeskPlan {
@@ -122,7 +122,7 @@ static LATE_ROWS: [Row; 3] = [
         },
     },
     Row {
-        name: "a failing report behind lost sync",
+        name: "a failing report after lost sync",
         words: "-I file in -O file out",
         input: Input::Lost(&[256, 256, 256], 376),
         plan: DeskPlan {

@@ -41,25 +41,25 @@ static FORM_ROWS: [Row; 9] = [
         plan: ORDINARY,
     },
     Row {
-        name: "packets behind four bytes, and ten bytes of a third",
+        name: "packets after four bytes, and ten bytes of a third",
         words: "-I file in --format m2ts -O file out",
         input: Input::Units(LEADS),
         plan: ORDINARY,
     },
     Row {
-        name: "packets behind four bytes, and three bytes more",
+        name: "packets after four bytes, and three bytes more",
         words: "-I file --format=m2ts in -O file out",
         input: Input::Units(LEADS_ALONE),
         plan: ORDINARY,
     },
     Row {
-        name: "a packet alone, read as one behind four bytes",
+        name: "a packet alone, read as one after four bytes",
         words: "-I file in --format m2ts -O file out",
         input: Input::Pids(&[256]),
         plan: ORDINARY,
     },
     Row {
-        name: "packets behind four bytes, read as packets alone",
+        name: "packets after four bytes, read as packets alone",
         words: "-I file in -O file out",
         input: Input::Units(LEADS),
         plan: ORDINARY,
@@ -74,7 +74,7 @@ static FORM_ROWS: [Row; 9] = [
         },
     },
     Row {
-        name: "packets behind four bytes, and the read behind these fails",
+        name: "packets after four bytes, and the read after these fails",
         words: "-I file in --format m2ts -O file out",
         input: Input::Units(LEADS),
         plan: DeskPlan {

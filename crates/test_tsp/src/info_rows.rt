@@ -59,7 +59,7 @@ static INFO_ROWS: [Row; 12] = [
         plan: ORDINARY,
     },
     Row {
-        name: "one PCR alone tells no bit rate",
+        name: "one PCR alone gives no bit rate",
         words: "-I testgen 1 50 -P filter --pcr -P info -O drop",
         input: Input::Pids(&[]),
         plan: ORDINARY,

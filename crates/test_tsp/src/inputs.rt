@@ -119,7 +119,7 @@ fn push_place(bytes: &mut Bytes, pids: &[u16], i: usize)
     push_packet(bytes, pid, (before % 16) as u8);
 }
 
-/// The first bytes of packets on these PIDs, each with what stands before and after it.
+/// The first bytes of packets on these PIDs, each with what is before and after it.
 fn push_units(bytes: &mut Bytes, units: Units) {
     let pids = units.pids;
     for i in 0..pids.len() {

@@ -59,7 +59,7 @@ fn fill(alloc: Global, plan: &mut FailPlan, line: &str) -> Result<(), AllocError
     set(alloc, &mut plan.closes, field(line, 4))
 }
 
-/// Puts the numbers that commas separate in the place of a list; a part that is no number is left out.
+/// Replaces a list by the numbers that commas separate; a part that is no number is left out.
 fn set(alloc: Global, list: &mut NumberList, field: &str) -> Result<(), AllocError> {
     *list = NumberList::of(numbers_of(alloc, field)?);
     Ok(())

@@ -16,7 +16,7 @@ static NOTE_ROWS: [Row; 2] = [
         plan: ORDINARY,
     },
     Row {
-        name: "until behind count of a million packets, a buffer of 1000",
+        name: "until after count of a million packets, a buffer of 1000",
         words: "--buffer-packets 1000 -I null 1000000 -P count -P until --packets 5 -O drop",
         input: Input::Pids(&[]),
         plan: ORDINARY,

@@ -66,7 +66,7 @@ pub(crate) fn of_watchers() -> &'static [Row] {
 
 static WATCH_ROWS: [Row; 6] = [
     Row {
-        name: "count of all behind skip",
+        name: "count of all after skip",
         words: "-I file in -P skip 1 -P count --all -O file out",
         input: Input::Pids(&THREE),
         plan: ORDINARY,

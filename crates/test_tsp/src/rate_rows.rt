@@ -116,7 +116,7 @@ static RATE_ROWS: [Row; 16] = [
         plan: ORDINARY,
     },
     Row {
-        name: "a clock that stands still tells no bit rate",
+        name: "a clock that stands still gives no bit rate",
         words: "-I file in -P info -O drop",
         input: Input::Clocks(&[clocked!(256, 0x10, 7000), clocked!(256, 0x10, 7000)]),
         plan: ORDINARY,

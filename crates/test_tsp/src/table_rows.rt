@@ -51,7 +51,7 @@ static TABLE_FAULT_ROWS: [Row; 5] = [
         },
     },
     Row {
-        name: "input not there behind a file of tables",
+        name: "input not there after a file of tables",
         words: "-I file in -P inject t.json --pid 0 --replace -O file out",
         input: Input::Pids(&[256]),
         plan: DeskPlan {
@@ -60,7 +60,7 @@ static TABLE_FAULT_ROWS: [Row; 5] = [
         },
     },
     Row {
-        name: "output not to be opened behind a file of tables",
+        name: "output not to be opened after a file of tables",
         words: "-I file in -P inject t.json --pid 0 --replace -O file out",
         input: Input::Pids(&[256]),
         plan: DeskPlan {

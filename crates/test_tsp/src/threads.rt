@@ -99,7 +99,7 @@ fn write_stages(page: &mut Page, gate: &FollowingGate) {
     for stage in gate.stages() {
         let end = stage.end();
         let wrong = stage.wrong();
-        page.add(format_args!("  a plugin's windows end at {end}, and {wrong} stand wrong\n"));
+        page.add(format_args!("  a plugin's windows end at {end}, and {wrong} are wrong\n"));
     }
 }
 

@@ -20,7 +20,7 @@ static WINDOW_ROWS: [Row; 6] = [
         plan: ORDINARY,
     },
     Row {
-        name: "rmorphan drops what a table behind its window names",
+        name: "rmorphan drops what a table after its window names",
         words: "--add-stop-stuffing 1 -I file in -P rmorphan --window 1 -O file out",
         input: LATE_TABLES,
         plan: ORDINARY,

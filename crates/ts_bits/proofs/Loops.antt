@@ -142,7 +142,7 @@ whole_from (suc most) offset (tag ∷ size ∷ rest) ds is =
 pub was_written : (row : List ℕ) (ds : List TaggedBody) → descriptors_of row ≡ Ok ds → loop_bytes ds ≡ row
 was_written row ds is = whole_from (length row) 0 row ds is
 
--- whole descriptors stand before one that is cut; `offset` counts from where `row` begins
+-- whole descriptors are before one that is cut; `offset` counts from where `row` begins
 cut_from : (most start offset : ℕ) (row : List ℕ) → length row ≤ most → descriptors_from most start row ≡ Err offset → (place : ℕ) × (offset ≡ start + place) × IsCutAt row place
 unfolding descriptors_from
 cut_from most start offset [] long is = cc

@@ -30,7 +30,7 @@ IsLoopOf row view (Ok list) = descriptors_of row ≡ Ok (view list)
 IsLoopOf row view (Err (Cut offset)) = descriptors_of row ≡ Err offset
 IsLoopOf row view (Err NoMemory) = Unit {0}
 
--- whole descriptors stand before `offset`, and the one that begins there passes the end
+-- whole descriptors are before `offset`, and the one that begins there passes the end
 pub record IsCutAt (bytes : List ℕ) (offset : ℕ) : Type 0 where
   pub before : List TaggedBody
   pub whole : loop_bytes before ≡ take offset bytes

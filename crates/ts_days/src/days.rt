@@ -1,4 +1,7 @@
 //! Days as texts.
+//!
+//! They are here, over the calendar of `jiff_core` and beside the times of events, and not in `ts_eit`: JSON needs
+//! them, and does not need the EIT. A `DayText` keeps its ten bytes itself, so neither call takes memory.
 
 ghost use Rattle.std.specs.Prelude.{◌≡◌, ◌≤◌, length, IfSome};
 ghost use Rattle.ts_days.specs.DayTexts;

@@ -65,7 +65,7 @@ IsWhole-to b w =
     (and_true (not (table_id_of b == 255)) (nat_le (section_length_of b) 4093 && nat_le (size_in_front b) (length b)) (not_of_false (table_id_of b == 255) w.no_stuffing)
     (and_true (nat_le (section_length_of b) 4093) (nat_le (size_in_front b) (length b)) (le-leb (section_length_of b) 4093 w.in_range) (le-leb (size_in_front b) (length b) w.there)))
 
--- what is whole in front stays so, whatever comes behind
+-- what is whole in front stays so, whatever comes after
 pub IsWhole-append : (b x : List ℕ) → IsWhole b → IsWhole (b ++ x)
 IsWhole-append b x w =
     let h : 1 ≤ length b = omega (arith, w.head) in
@@ -135,7 +135,7 @@ pub sections_in-stop : (b : List ℕ) → is_whole_in_front b ≡ false → sect
 unfolding sections_in
 sections_in-stop b e = rw (cut-stop b e) refl
 
--- a whole piece in front is cut off, whatever comes behind
+-- a whole piece in front is cut off, whatever comes after
 pub sections_in-step :
     (b x : List ℕ) → is_whole_in_front b ≡ true →
     sections_in (b ++ x) ≡ filter is_section (take (size_in_front b) b ∷ []) ++ sections_in (drop (size_in_front b) b ++ x)

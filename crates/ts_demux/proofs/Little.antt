@@ -45,7 +45,7 @@ sections_after-ended before after was_open is_open old bytes grown empty more o 
     let d : sections_after is_open empty more ≡ [] = if_false is_open (sections_in (empty ++ more)) [] c in
     ap (λ t. before ++ t) (a ∙ sym b) ∙ h ∙ sym (ap (λ t. after ++ t) d ∙ append-nil after)
 
--- of bytes whose rest behind the whole pieces is over, no more than these pieces come
+-- of bytes whose rest after the whole pieces is over, no more than these pieces come
 pub cut-over :
     (before after : List (List ℕ)) (bytes given seen : List ℕ) (at : ℕ) → given ≡ bytes → seen ≡ bytes →
     ((more : List ℕ) → before ++ sections_in (given ++ more) ≡ after ++ sections_in (drop at given ++ more)) →

@@ -1,4 +1,4 @@
--- The sections to come behind a remembered part.
+-- The sections to come after a remembered part.
 use Rattle.std.proofs.Common.{◌≡◌, ℕ, Bool, true, false, ◌==◌, nat_le, List, suc, ◌∷◌, ◌++◌, length, Some, refl, ap, arith, inl, inr}
 use Rattle.std.specs.List.{flat_map}
 use Rattle.std.proofs.lemmas.Bool.Decides.{leb_tells}
@@ -19,7 +19,7 @@ remembered_is_valid : (is_open : Bool) (bytes : List ℕ) (counter : ℕ) → is
 remembered_is_valid true bytes counter = longer_than_none (length bytes)
 remembered_is_valid false bytes counter = refl
 
--- behind a remembered part its stretch goes on with what follows
+-- after a remembered part its stretch goes on with what follows
 pub sections_left-remembered :
     (is_open : Bool) (bytes : List ℕ) (counter : ℕ) (ps : List Part) →
     sections_left (part_of is_open bytes counter ∷ ps)
@@ -29,11 +29,11 @@ sections_left-remembered true bytes counter ps =
 sections_left-remembered false bytes counter ps =
     ap (flat_map sections_in) (all_stretches-plain (part_of false bytes counter) ps (remembered_is_valid false bytes counter) refl)
 
--- the parts behind one with this counter that do not repeat
+-- the parts after one with this counter that do not repeat
 abbrev pub others_after : ℕ → List Part → List Part
 others_after counter ps = without_repeats (Some counter) ps
 
--- what is to come behind a remembered part
+-- what is to come after a remembered part
 pub sections-remembered :
     (is_open : Bool) (bytes : List ℕ) (counter : ℕ) (ps : List Part) →
     sections_of_parts (part_of is_open bytes counter ∷ ps)

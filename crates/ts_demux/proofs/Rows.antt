@@ -8,7 +8,7 @@ use Rattle.ts_demux.specs.Cut.{is_whole_in_front, cut_at_most, cut}
 use Rattle.ts_demux.specs.SectionsOfParts.{sections_in, sections_of_parts}
 use Rattle.ts_demux.specs.Tables.{era_of, firsts, table_at, tables_after, tables_of}
 
--- behind a pointer 0: the first four bytes of the short section 70 30 02 AA BB
+-- after a pointer 0: the first four bytes of the short section 70 30 02 AA BB
 abbrev begun : ℕ → Part
 begun counter = record { counter = counter; unit_start = true; payload = 0 ∷ 0x70 ∷ 0x30 ∷ 0x02 ∷ 0xAA ∷ [] }
 
@@ -21,7 +21,7 @@ over_two_packets : sections_of_parts (begun 3 ∷ begun 3 ∷ ended 4 ∷ []) �
 unfolding sections_of_parts sections_in cut cut_at_most is_whole_in_front first_broken field bit_of
 over_two_packets = refl
 
--- the counter behind 15 is 0
+-- the counter after 15 is 0
 after_15 : sections_of_parts (begun 15 ∷ ended 0 ∷ []) ≡ (0x70 ∷ 0x30 ∷ 0x02 ∷ 0xAA ∷ 0xBB ∷ []) ∷ []
 unfolding sections_of_parts sections_in cut cut_at_most is_whole_in_front first_broken field bit_of
 after_15 = refl
@@ -31,7 +31,7 @@ over_a_jump : sections_of_parts (begun 3 ∷ ended 5 ∷ []) ≡ []
 unfolding sections_of_parts sections_in cut cut_at_most is_whole_in_front first_broken field bit_of
 over_a_jump = refl
 
--- a pointer 1 ends the section with one byte, and a new stretch begins behind it
+-- a pointer 1 ends the section with one byte, and a new stretch begins after it
 abbrev pointed : Part
 pointed = record { counter = 4; unit_start = true; payload = 1 ∷ 0xBB ∷ 0x71 ∷ [] }
 

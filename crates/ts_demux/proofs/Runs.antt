@@ -17,7 +17,7 @@ abbrev pub first_lead : List (List Part) → List ℕ
 first_lead [] = []
 first_lead (run ∷ runs) = lead run
 
--- the bytes with which a list of parts goes on behind a counter, up to the next pointed place
+-- the bytes with which a list of parts goes on after a counter, up to the next pointed place
 abbrev pub following : ℕ → List Part → List ℕ
 following counter ps = if goes_on counter ps then first_lead (continuous_runs ps) else []
 
@@ -90,7 +90,7 @@ lead_choose_unit :
 lead_choose_unit true p runs e h = first_lead-unit p runs e h
 lead_choose_unit false p runs e h = lead-unit p [] e h
 
--- behind a counter that a part without unit start goes on from, its payload comes first
+-- after a counter that a part without unit start goes on from, its payload comes first
 pub following-plain :
     (counter : ℕ) (p : Part) (ps : List Part) →
     goes_on counter (p ∷ ps) ≡ true → is_invalid p ≡ false → p.unit_start ≡ false →

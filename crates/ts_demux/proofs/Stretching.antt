@@ -33,7 +33,7 @@ slice_range-behind x b from to =
     let e : length x + to - (length x + from) ≡ to - from = omega arith in
     rw (e, drop-append-add x b from) refl
 
--- places behind a first row are places in the rest
+-- places after a first row are places in the rest
 pub ranges-map :
     (x b : List ℕ) (places : List ℕ) →
     ranges (x ++ b) (map (λ i. length x + i) places) ≡ ranges b places
@@ -59,7 +59,7 @@ places-unit p ps e =
     let z : 0 + pointer_of p ≡ pointer_of p = omega arith in
     if_true p.unit_start ((0 + pointer_of p) ∷ places) places e ∙ rw (z, places_after (body_of p) ps) refl
 
--- the stretches of a run behind a part with no pointed place
+-- the stretches of a run after a part with no pointed place
 pub stretches-plain : (p : Part) (ps : List Part) → p.unit_start ≡ false → stretches (p ∷ ps) ≡ stretches ps
 stretches-plain p ps e =
     ap (ranges (joined (p ∷ ps))) (places-plain p ps e) ∙ ranges-map (body_of p) (joined ps) (pointed_places 0 ps)

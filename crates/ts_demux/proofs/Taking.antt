@@ -1,4 +1,4 @@
--- One part taken: what waits then, and what is to come behind the part that is remembered then.
+-- One part taken: what waits then, and what is to come after the part that is remembered then.
 use Rattle.std.proofs.Common.{◌≡◌, ℕ, ◌+◌, ◌%◌, ◌≤◌, ◌<◌, Bool, true, false, not, ◌&&◌, ◌==◌, nat_le, List, [], ◌∷◌, ◌++◌, length, take, drop, Option, Some, None, refl, sym, ◌∙◌, ap, arith, append_assoc, append-nil, inl, inr, length-drop}
 use Rattle.std.specs.List.{flat_map}
 use Rattle.std.proofs.lemmas.Bool.Decides.{leb_tells, nat_tests}
@@ -76,7 +76,7 @@ front (Some counter) old_open mid_open old_bytes mid_bytes p ps lead n w o b e l
           s ∙ ap (λ t. t ++ sections_left (p ∷ others)) (nothing ∙ sym closed))
     ]
 
--- what is to come behind a part that is remembered now
+-- what is to come after a part that is remembered now
 back :
     (last : Option ℕ) (is_open : Bool) (bytes : List ℕ) (counter : ℕ) (ps : List Part) → last ≡ Some counter →
     behind last is_open bytes ps ≡ sections_after is_open bytes (following counter (others_after counter ps)) ++ sections_left (others_after counter ps)

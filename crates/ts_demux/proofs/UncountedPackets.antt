@@ -51,7 +51,7 @@ not_both : (a b : Bool) → a ≡ false → (a && b) ≡ false
 not_both true b e = cc
 not_both false b e = refl
 
--- the first packet, where those behind it are known
+-- the first packet, where those after it are known
 first-counted :
     (pid : ℕ) (x : List ℕ) (xs : List (List ℕ)) → counted_packets pid (packets_on pid xs) ≡ counted_packets pid xs → (b : Bool) → (pid_of x == pid) ≡ b →
     counted_packets pid (if b then x ∷ packets_on pid xs else packets_on pid xs) ≡ cons_option (counted pid x) (counted_packets pid xs)

@@ -1,5 +1,5 @@
 -- The pieces of a stretch, cut from its front by section_length.
--- ISO/IEC 13818-1, 2.4.4.1: sections follow one another, and 0xFF in the place of a table_id begins stuffing.
+-- ISO/IEC 13818-1, 2.4.4.1: sections follow one another, and 0xFF instead of a table_id begins stuffing.
 use Rattle.std.specs.Prelude.{ℕ, ◌+◌, ◌==◌, nat_le, Bool, not, ◌&&◌, List, [], ◌∷◌, length, take, drop, zero, suc, if◌then◌else◌}
 use Rattle.ts_section.specs.SectionFields.{table_id_of, section_length_of}
 
@@ -7,7 +7,7 @@ use Rattle.ts_section.specs.SectionFields.{table_id_of, section_length_of}
 abbrev pub size_in_front : List ℕ → ℕ
 size_in_front b = 3 + section_length_of b
 
--- whether a whole piece stands at the front: its first three bytes are there, it is no stuffing,
+-- whether a whole piece is at the front: its first three bytes are there, it is no stuffing,
 -- its section_length is at most 4093, and as many bytes are there
 unfoldable pub is_whole_in_front : List ℕ → Bool
 is_whole_in_front b =

@@ -18,7 +18,7 @@ const HEAD: usize = 3;
 /// The most that section_length may be.
 const MOST_LENGTH: usize = 4093;
 
-/// The byte in the place of a table_id where stuffing begins.
+/// The byte instead of a table_id where stuffing begins.
 const STUFFING: u8 = 0xFF;
 
 /// Cuts the whole pieces off the front of unfinished bytes, and lets the valid sections among them wait. Returns

@@ -50,7 +50,7 @@ read_small count from n after is =
     let small : number_of (take count from) < 2 ^ length (take count from) = number_of-lt (take count from) in
     rw (n_is, long) at small
 
--- what stands before, and what is read
+-- what is before, and what is read
 abbrev pub with_front : {A : Type 0} → List A → Option (List A × List Bool) → Option (List A × List Bool)
 with_front front read = read >>= λ x. Some (front ++ x.0, x.1)
 

@@ -110,7 +110,7 @@ none_large p room (x ∷ xs) none =
 
 -- ---- a body
 
--- what stands in a piece takes as many bytes as its things
+-- what is in a piece takes as many bytes as its things
 piece_total : (p : TablePage) (piece : List Thing) → length (loop_bytes (owns_in piece)) + length (flat_map (item_row p.items) (items_in piece)) ≡ total (thing_size p) piece
 piece_total p [] = refl
 piece_total p (own_thing d ∷ piece) =

@@ -29,7 +29,7 @@ one_more_of view g h old new x xs i a inside same is made so_far =
     ∙ ap (λ z. map g (map h (take i xs)) ++ z ∷ []) made ∙ sym (map_push g (map h (take i xs)) (h a))
     ∙ ap (map g) (next_of h xs i a (h a) inside same refl)
 
--- a test that all things from a place on pass is passed by the one at the place, and by those behind it
+-- a test that all things from a place on pass is passed by the one at the place, and by those after it
 pub here_and_after : {A B : Type 0} (t : B → Bool) (h : A → B) (xs : List A) (i : ℕ) (a : A) → i < length xs
     → a ≡ get_or xs i a → list_all t (map h (drop i xs)) ≡ true
     → (t (h a) ≡ true) × (list_all t (map h (drop (i + 1) xs)) ≡ true)

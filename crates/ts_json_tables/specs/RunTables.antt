@@ -112,7 +112,7 @@ sections_of_table (laid p t) = sections_of p t
 sections_of_table (short s) = Ok (short_section s.table_id s.own s.payload ∷ [])
 sections_of_table (long l) = Ok (long_sections l)
 
--- how many items stand before the first with number 0, if there is one
+-- how many items come before the first with number 0, if there is one
 unfoldable pub zero_place : List ItemHolding → Option ℕ
 zero_place [] = None
 zero_place (x ∷ xs) = if is_network x then Some 0 else option_map (λ n. n + 1) (zero_place xs)

@@ -1,4 +1,8 @@
 //! Tables: of a known layout, or given by their bytes.
+//!
+//! `Table` has three variants, and none for each known table: that would put a match into each of reader, writer and
+//! laws, and a new table would change all of them. Who needs a `Pat` or a `Pmt` reads it from the run by `Pat::read`.
+//! The payloads of a `LongTable` are plain rows of bytes.
 
 use ts_table_rows::TableLayout;
 

@@ -1,4 +1,9 @@
 //! Reading an element, step by step.
+//!
+//! There is no type `Element` that is asked for one attribute after another: `read_element` checks a whole element
+//! against the rows of its fields and gives their values, in the order of the rows, or the first fault. What is beside
+//! it (`members`, `element_name`, `check_keys`, `children`) is for elements whose name has to be known before their
+//! rows are. So the order of faults is defined and proved once, and not in each reader of a table or descriptor.
 
 ghost use Rattle.std.specs.Prelude.{◌≡◌, ◌||◌, [], map, IsTrue, is_none, bytes_eq};
 ghost use Rattle.serde_json.specs.View.{view, items_view, members_view};

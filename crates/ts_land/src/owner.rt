@@ -1,4 +1,7 @@
 //! The owner of a block: a `Vec` whose values are taken out, with its memory and the right to free it.
+//!
+//! It goes with the block's first value. A counter of windows, or an owner beside them, would have to be handed round
+//! too; so a window of all slots always has what `close` needs.
 ghost use Rattle.std.specs.Prelude.{◌≡◌, ◌<◌, ℕ, List, length};
 ghost use Rattle.std.specs.Vec.{with_items, vec_len, vec_ptr};
 ghost use base.Fml.{ftrue, fex, fall, fwand, fsep, feq};

@@ -1,4 +1,7 @@
 //! The types whose values may lie in a block.
+//!
+//! A window says where it is by its slot and the size of a value, and the invariant of a type cannot ask for the size
+//! of a type parameter. So the size is a member of this small trait, which every type has.
 ghost use Rattle.std.specs.Prelude.{◌≡◌, ℕ};
 ghost use Rattle.std.specs.Mem.{type_size};
 

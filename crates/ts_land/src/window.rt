@@ -1,4 +1,7 @@
 //! Windows of a block of values.
+//!
+//! A window says where its block begins (`base`), as a pointer to which it gives no right: whoever holds several
+//! windows compares it to see that they are of one block.
 ghost use Rattle.std.specs.Prelude.{◌≡◌, ◌+◌, ◌*◌, ◌<◌, ◌≤◌, ◌^◌, List, length, take, drop, ◌++◌, replicate, IfOk, None, ◌⊎◌};
 ghost use Rattle.std.specs.Option.{option_or};
 ghost use Rattle.std.specs.Borrow.{Lends, Array, sem};

@@ -4,7 +4,7 @@ use crate::trouble::Trouble;
 use std::alloc::Global;
 use ts_outside::{Purpose, one_more};
 
-/// What a desk noted: the call that failed, and bytes by which the fault can be told.
+/// What a desk noted: the call that failed, and bytes by which the fault can be recognized.
 #[derive(Drop)]
 pub struct Noted {
     alloc: Global,
@@ -93,7 +93,7 @@ impl Noted {
         self.head = head;
     }
 
-    /// Keeps the bytes of a file, where that is wanted. If memory runs out, none are.
+    /// Keeps the bytes of a file, where that is asked for. If memory runs out, none are.
     pub(crate) fn note_file(&mut self, bytes: &[u8]) {
         self.file = None;
         if self.keeps_file {

@@ -1,4 +1,4 @@
-//! What the programs share where they explain how a call ended, on standard error alone: whether that is wanted, and what is said of
+//! What the programs share where they explain how a call ended, on standard error alone: whether that is asked for, and what is said of
 //! a file by its name. No clause says any of it.
 use crate::trouble::Trouble;
 use std::alloc::{AllocError, Global};

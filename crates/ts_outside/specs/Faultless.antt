@@ -2,7 +2,7 @@
 use Rattle.ts_outside.specs.Count.{IsQuiet}
 use Rattle.ts_outside.specs.Desk.{DeskView}
 
--- nothing failed outside: no count of faults rose, and none stood at its end
+-- nothing failed outside: no count of faults rose, and none was at its end
 pub record NothingFails (old new : DeskView) : Type 0 where
   pub reads : IsQuiet old.read_faults new.read_faults
   pub writes : IsQuiet old.write_faults new.write_faults

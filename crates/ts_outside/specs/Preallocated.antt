@@ -12,13 +12,13 @@ preallocated_source left = record { left = Some left; faults = 0; origin = own_b
 abbrev pub preallocated_sink : ℕ → SinkView
 preallocated_sink taken = record { taken = None; name = None; faults = 0 }
 
--- what contracts see of a steady desk: its files, and the numbers of bytes written by closed sinks and reported
+-- what contracts see of a preallocated desk: its files, and the numbers of bytes written by closed sinks and reported
 pub record PreallocatedDeskView : Type 0 where
   pub files : List (List ℕ × List ℕ)
   pub written : ℕ
   pub reported : ℕ
 
--- of a steady desk only the files are known, and nothing ever failed
+-- of a preallocated desk only the files are known, and nothing ever failed
 abbrev pub preallocated_desk : PreallocatedDeskView → DeskView
 preallocated_desk d =
     record {

@@ -1,4 +1,4 @@
-//! A sink of a steady desk.
+//! A sink of a preallocated desk.
 ghost use Rattle.std.specs.Prelude.{◌≡◌, ◌<◌, ◌≤◌, length, take, IfOk, OnErr};
 ghost use Rattle.ts_outside.specs.Sink.{took, write_failed};
 ghost use Rattle.ts_outside.specs.Preallocated.{counted, preallocated_sink};

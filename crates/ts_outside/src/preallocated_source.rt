@@ -1,4 +1,4 @@
-//! A source of a steady desk.
+//! A source of a preallocated desk.
 ghost use Rattle.std.specs.Prelude.{◌≡◌, ◌<◌, ◌≤◌, [], drop, length, min, take, IfOk, IsOk, OnErr, IfSome};
 ghost use Rattle.ts_outside.specs.Source.{read_failed, unread};
 ghost use Rattle.ts_outside.specs.Preallocated.{preallocated_source};

@@ -1,4 +1,11 @@
 //! The trait of sources.
+//!
+//! What contracts see of a source has a third part, `origin`: the length of the units of which it leaves some bytes
+//! out, and the bytes that the source under it had to come when it was taken, known or not. No call changes it. The
+//! clauses of a run are equations of whole views, so it goes through all of them without a line of its own, and after
+//! the run it ties the packets that were read to the file's own bytes. A source that leaves nothing out has
+//! `own_bytes`. The length has to be there: a short file has the same packets in two forms, and without it the source
+//! that comes back could be one of the other form.
 ghost use Rattle.std.specs.Prelude.{◌≡◌, ◌<◌, ◌≤◌, [], length, take, IfOk, OnErr, IfSome};
 ghost use Rattle.ts_outside.specs.Source.{SourceView, read_failed, unread};
 

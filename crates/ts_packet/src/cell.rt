@@ -1,4 +1,12 @@
 //! A cell: a place in the chain for one packet.
+//!
+//! A cell is a struct and no enum, so that a drop writes one byte. A value of an enum is made elsewhere and copied
+//! whole: a drop would write 196 bytes, and a packet that comes into a dropped cell would be copied twice. Contracts
+//! see what the enum would say (`CellValue`), so no rule, definition or theorem knows of the byte. As the view leaves
+//! out what a dropped cell holds, a cell is not `Copy`, and its `clone` is written by hand.
+//!
+//! A cell takes 196 bytes: 188 of the packet, 4 of the labels, 4 of the mark with its filling (a test of `test_low`
+//! measures it). Labels in a list of their own would save the filling and cost every stage a second place to read.
 ghost use Rattle.std.specs.Prelude.{◌≡◌, MatchOption, slice_index};
 ghost use Rattle.std.specs.Borrow.{LendsIf, sem};
 ghost use Rattle.ts_packet.specs.Cells.{Live, Dropped, is_live};

@@ -1,4 +1,7 @@
 //! The labels of a packet.
+//!
+//! They are one number of 32 bits, in the code and in the model. The law `labels_are_a_set` says that its words are
+//! those of sets.
 ghost use Rattle.std.specs.Prelude.{◌≡◌, ◌<◌};
 ghost use Rattle.ts_packet.specs.Labels.{has_label, joined, no_labels, shares_label, with_label};
 

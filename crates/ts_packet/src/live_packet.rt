@@ -1,4 +1,7 @@
 //! A packet that no plugin has dropped.
+//!
+//! A packet and its labels are lent together, as one value: the toolchain follows a struct through one `&mut` into it,
+//! and not through two at once.
 use crate::labels::Labels;
 use crate::packet::Packet;
 

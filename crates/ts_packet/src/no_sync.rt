@@ -5,6 +5,6 @@ use thiserror::Error;
 #[derive(Clone, Copy, Debug, PartialEq, Eq, Error)]
 #[error("no sync byte: found {found}")]
 pub struct NoSync {
-    /// The byte that stands in its place.
+    /// The byte that is there instead.
     pub found: u8,
 }

@@ -169,7 +169,7 @@ drop-seam (x ∷ xs) ys = drop-seam xs ys
 fill-count : (rest : List ℕ) (ss : List (List ℕ)) → length rest < 183 → 183 - length rest ≤ length (joined ss) → 184 - suc (length (take 183 (rest ++ joined ss))) ≡ 0
 fill-count rest ss h full = omega (arith, h, full, length-take 183 (rest ++ joined ss), length-append rest (joined ss))
 
--- what stands after the pointer, and what continues, give the sections that have begun
+-- what comes after the pointer, and what continues, give the sections that have begun
 begins_sections :
     (rest : List ℕ) (ss : List (List ℕ)) (j : ℕ) → length rest < 183 → AllByRecursion (λ s. IsSection s) (begun (183 - length rest) ss) →
     sections_in (after_pointer rest ss ++ (missing (183 - length rest) ss ++ replicate j 0xFF)) ≡ begun (183 - length rest) ss

@@ -1,6 +1,6 @@
 -- How sections are laid into payloads.
 -- ISO/IEC 13818-1, 2.4.4.1 and 2.4.4.2: sections follow one another, the pointer_field says where the first of them
--- begins, and stuffing stands after the last one. Where a payload is used by one section alone is this project's own rule.
+-- begins, and stuffing comes after the last one. Where a payload is used by one section alone is this project's own rule.
 use Rattle.std.specs.Prelude.{ℕ, ◌-◌, ◌==◌, nat_le, Bool, true, false, List, [], ◌∷◌, ◌++◌, length, take, drop, replicate, zero, suc, if◌then◌else◌}
 use Rattle.std.specs.List.{flat_map}
 use Rattle.ts_packet.specs.declared.numbers.TheConstants.{PAYLOAD_SIZE}

@@ -1,5 +1,5 @@
 -- A CAT as a table.
--- ISO/IEC 13818-1, 2.4.4.6: the bits in the place of table_id_extension are reserved.
+-- ISO/IEC 13818-1, 2.4.4.6: the bits where others have table_id_extension are reserved.
 use Rattle.std.specs.Prelude.{ℕ, List, [], None, Result, Ok}
 use Rattle.ts_table_rows.specs.TableValues.{TableHolding}
 use Rattle.ts_table_rows.specs.RunReading.{FirstBroken, read_run, ◌>>=◌}

@@ -1,6 +1,9 @@
 //! The tables of MPEG: PAT, CAT and PMT. A run of sections comes in and a table goes out, or a table comes in and its
 //! sections go out. The layer above rests on `read`, exact to the first broken rule, and on `sections`, exact to the
 //! rule of filling.
+//!
+//! `sections` takes an allocator, as `read` does, and `copy` takes none: a copy is in the memory of its value's
+//! allocator, and what is written may be in another's.
 #![tactic(auto)]
 
 mod cat;

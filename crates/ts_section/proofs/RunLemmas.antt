@@ -33,7 +33,7 @@ pub whole_members : (s : List ℕ) (rest : List (List ℕ)) → stands_alone s �
 whole_members s rest together whole =
     elim whole [ inl alone ↦ absurd (false≢true (sym together ∙ alone.0)) | inr members ↦ members ]
 
--- a section that stands alone is the whole run
+-- a section that is alone is the whole run
 pub alone_only : (s : List ℕ) (rest : List (List ℕ)) → IsTableRun (s ∷ rest) → stands_alone s ≡ true → rest ≡ []
 alone_only s rest whole alone =
     elim whole [

@@ -9,7 +9,7 @@ use Rattle.ts_section.specs.declared.long_head.LongHead.{LongHead}
 abbrev pub stands_alone : List ℕ → Bool
 stands_alone s = not (is_long s) || (nat_le 78 (table_id_of s) && nat_le (table_id_of s) 111)
 
--- a section may stand at a place of the run that `first` begins: same table, extension, version,
+-- a section may be at a place of the run that `first` begins: same table, extension, version,
 -- current flag and last number, and the place as its number; the private bit is free
 pub record IsMember (first : List ℕ) (place : ℕ) (s : List ℕ) : Type 0 where
   pub together : stands_alone s ≡ false
@@ -40,7 +40,7 @@ abbrev pub BeginsRun : List (List ℕ) → Type 0
 BeginsRun [] = Unit {0}
 BeginsRun (s ∷ rest) = ((stands_alone s ≡ true) × (rest ≡ [])) ⊎ AllMembers s (s ∷ rest)
 
--- a whole run: one section that stands alone, or the numbers from 0 to the last
+-- a whole run: one section that is alone, or the numbers from 0 to the last
 abbrev pub IsTableRun : List (List ℕ) → Type 0
 IsTableRun [] = ⊥
 IsTableRun (s ∷ rest) =

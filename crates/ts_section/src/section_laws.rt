@@ -16,7 +16,7 @@ pub fn made_sections_are_valid()
         length body ≤ 4093 → IsShortSectionOf id own body (short_section id own body) }
 {}
 
-/// A run whose first section does not stand alone has one head in all its sections, each of the long
+/// A run whose first section is not alone has one head in all its sections, each of the long
 /// form; any other run is that one section. A law; it runs nothing.
 pub fn runs_share_their_head()
     ensures head { (first : List ℕ) (rest : List (List ℕ)) (k : ℕ) → IsTableRun (first ∷ rest) →

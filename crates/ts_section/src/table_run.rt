@@ -107,7 +107,7 @@ fn shared_head(section: &Section) -> Option<LongHead>
     }
 }
 
-/// Whether the section stands at `place` of the run that a section with the head `first` begins.
+/// Whether the section may be at `place` of the run that a section with the head `first` begins.
 fn is_member(first: &LongHead, place: usize, section: &Section) -> bool
     ensures member { IsTrue result ↔ SharesHead first.now place section.now }
     ensures valid { IsSection section.now }

@@ -93,7 +93,7 @@ static SDT: TableLayout = TableLayout {
     one_zero: false,
 };
 
-/// The layout of the network information table. Its own descriptors stand before the transport streams, and nothing
+/// The layout of the network information table. Its own descriptors come before the transport streams, and nothing
 /// follows these.
 pub fn nit_layout() -> &'static TableLayout
     ensures page { table_page result.now ≡ nit_page }

@@ -26,7 +26,7 @@ use Rattle.ts_table_rows.proofs.AgainRun.{MadeValid, first-made, last-small, cou
 
 -- ---- table_ids
 
--- a table that keeps its section numbers is one whose sections stand alone, and no other is
+-- a table that keeps its section numbers is one whose sections are alone, and no other is
 ids-run : (keeps : Bool) (ids : List (ℕ × ℕ)) (id : ℕ) → list_all (id_forms_runs keeps) ids ≡ true → has_id ids id ≡ true → (nat_le 78 id && nat_le id 111) ≡ keeps
 ids-run keeps [] id all found = cc
 ids-run keeps (range ∷ ids) id all found =

@@ -63,7 +63,7 @@ read_fields rule behind (r ∷ rs) from = do
   more ← read_fields rule behind rs x.1
   Ok (option_to_list x.0 ++ more.0, more.1)
 
--- as many bytes as a number of 12 bits says; they must stand before the end of the part; where the number itself is
+-- as many bytes as a number of 12 bits says; they must be before the end of the part; where the number itself is
 -- cut, this rule is broken at this place
 unfoldable pub read_counted : TableRule → ℕ → ℕ → List Bool → Result (List ℕ × List Bool) Fault
 read_counted rule left behind from = do

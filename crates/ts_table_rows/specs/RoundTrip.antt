@@ -16,7 +16,7 @@ IsReadAgain p h = (sections : List (List ℕ)) → sections_of p h ≡ Ok sectio
 abbrev pub IsWrittenWhole : TablePage → TableHolding → Type 0
 IsWrittenWhole p h = (sections : List (List ℕ)) → sections_of p h ≡ Ok sections → IsTableRun sections
 
--- section numbers are kept exactly for the table_ids of an EIT (0x4E to 0x6F), each section of which stands alone
+-- section numbers are kept exactly for the table_ids of an EIT (0x4E to 0x6F), each section of which is alone
 abbrev pub id_forms_runs : Bool → ℕ × ℕ → Bool
 id_forms_runs keeps range =
     if keeps then nat_le 0x4E range.0 && nat_le range.1 0x6F else nat_lt range.1 0x4E || nat_lt 0x6F range.0

@@ -11,7 +11,7 @@ use Rattle.ts_table_rows.specs.declared.layout.ItemForm.{ItemForm}
 use Rattle.ts_table_rows.specs.declared.layout.TableLayout.{TableLayout}
 
 -- the items of a table: their name, the rows of one, whether descriptors follow its fields, and whether the number of
--- bytes of all of them stands before the first
+-- bytes of all of them comes before the first
 pub record ItemPage : Type 0 where
   pub name : List ℕ
   pub rows : List Row

@@ -22,7 +22,7 @@ pub struct ItemForm {
     pub rows: &'static [Field],
     /// Whether descriptors follow the fields of an item, with their number of bytes in 12 bits before them.
     pub described: bool,
-    /// Whether four reserved bits and the number of bytes of all items in 12 bits stand before the items; otherwise
+    /// Whether four reserved bits and the number of bytes of all items in 12 bits come before the items; otherwise
     /// the items go on to the end of the body.
     pub counted: bool,
 }

@@ -1,4 +1,7 @@
 //! The packets of the four tables.
+//!
+//! Their bytes are constants here, and are given by their fields in the definition (`GeneratedTables.antt`), so that
+//! the generator depends on sections and packets alone. They take memory while they are packed and none later.
 ghost use Rattle.std.specs.Prelude.{◌≡◌, ◌<◌, ◌≤◌, length, true, IfOk};
 ghost use Rattle.ts_section.specs.WrittenSection.{long_section};
 ghost use Rattle.ts_testgen.specs.Counters.{AreTables};

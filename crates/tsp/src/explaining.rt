@@ -9,7 +9,7 @@ use std::alloc::AllocError;
 use ts_os::{OsDesk, write_explained};
 use tsp_top::{CallEnd, PluginNotes, Status};
 
-/// The text about a refused command line: its segment, the wrong word, and what may stand there.
+/// The text about a refused command line: its segment, the wrong word, and what may be there.
 fn words_text(
     rt: &HostRuntime,
     words: &[String],

@@ -14,7 +14,7 @@ const SYNC: u8 = 0x47;
 /// So many packets have to begin with it.
 const ENOUGH: usize = 3;
 
-// Whether each packet of this size begins with the sync byte, of which the first stands at a place.
+// Whether each packet of this size begins with the sync byte, of which the first is at a place.
 fn is_synced(bytes: &[u8], size: usize, first: usize) -> bool
     requires { 0 < size }
 {
@@ -35,7 +35,7 @@ fn is_synced(bytes: &[u8], size: usize, first: usize) -> bool
 pub(crate) enum Seen {
     /// Packets in one of the forms of a file.
     Form(SeenForm),
-    /// Packets of 188 bytes, behind so many other bytes.
+    /// Packets of 188 bytes, after so many other bytes.
     Behind(u64),
     /// Datagrams of RTP with packets (RFC 3550, 5.1; RFC 3551, payload type 33).
     Rtp,

@@ -1,5 +1,5 @@
 //! The program `tsp`. It reads the words of the command line, runs `explained_call` over real files, explains on standard error
-//! what failed, found nothing to edit or did not see a table change, where that is wanted, and ends with the exit number. What a
+//! what failed, found nothing to edit or did not see a table change, where that is asked for, and ends with the exit number. What a
 //! run does is the contract of that call, which is that of `tsp_call`: the stream theorem.
 #![tactic(auto)]
 

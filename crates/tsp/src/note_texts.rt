@@ -1,12 +1,12 @@
 //! The text about plugins: a line for each that edited, inserted or read nothing, with what never came, and for each table
-//! that changed without a new version before one that goes by it.
+//! that changed without a new version before one that uses it.
 use crate::run_texts::plugin_name;
 use chain_args::Plan;
 use plug_psi::Unedited;
 use std::alloc::{AllocError, Global};
 use tsp_top::{Idle, IdlePlugin, NotedChange, PluginNotes};
 
-// Why an edit of tables, or one that goes by them, found nothing to edit.
+// Why an edit of tables, or one that uses them, found nothing to edit.
 fn unedited_text(alloc: Global, why: Unedited) -> Result<String, AllocError> {
     match why {
         Unedited::NoTable(pid) => format!(in alloc; "no table came on PID {pid}"),

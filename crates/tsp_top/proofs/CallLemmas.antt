@@ -33,7 +33,7 @@ use Rattle.tsp_top.proofs.DeskLemmas.{SameOutside, same-asked_input, asked-asked
 use Rattle.tsp_top.proofs.SourceLemmas.{reads-nothing, some-files}
 use Rattle.tsp_top.proofs.StreamLemmas.{reports-text}
 
--- an opening in vain changes what was asked and one count of faults
+-- a failed opening changes what was asked and one count of faults
 in-vain-input : (d : DeskView) (conf : InputConf) → NamesInput conf
     → SameOutside d (asked_input_in_vain d conf) × HasCause d.read_faults (asked_input_in_vain d conf).read_faults
     × ((asked_input_in_vain d conf).asked ≡ grown d.asked (asked_for Input (input_name conf) false))

@@ -53,7 +53,7 @@ pub fn tsp_call<R: Threads + Wait + Sync, D: Desk, G: Gate>(
 }
 
 /// Does what `tsp_call` does, and returns the plan of the words with the status. Where it is asked, it is noted which plugins were
-/// idle in the run, and which tables changed without a new version before the plugins that go by them.
+/// idle in the run, and which tables changed without a new version before the plugins that use them.
 pub fn explained_call<R: Threads + Wait + Sync, D: Desk, G: Gate>(
     rt: &R,
     alloc: Global,

@@ -4,7 +4,7 @@ use crate::call_notes::PluginNotes;
 use crate::status::Status;
 use chain_args::Plan;
 
-/// What a call came to: its status, and what its explanation goes by.
+/// What a call came to: its status, and what its explanation needs.
 #[derive(Drop)]
 pub struct CallEnd {
     /// How the call ended.

@@ -12,7 +12,7 @@ pub struct IdlePlugin {
     pub why: Idle,
 }
 
-/// A table that changed without a new version, as a plugin that goes by it met it.
+/// A table that changed without a new version, as a plugin that uses it met it.
 #[derive(Clone, Copy)]
 pub struct NotedChange {
     /// The plugin's number in the chain, counted from 1.

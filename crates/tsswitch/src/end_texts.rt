@@ -9,7 +9,7 @@ use ts_outside::Purpose;
 const USAGE: &str =
     "tsswitch [--cycle N] [--buffer-packets N] -I file NAME [-I file NAME] .. [-O file NAME | -O drop]";
 
-/// What may stand after a word.
+/// What may come after a word.
 static ROWS: [WordRow; 6] = [
     WordRow {
         after: "",

@@ -3,7 +3,7 @@ use crate::end_texts::end_text;
 use switch_top::SwitchEnd;
 use ts_os::{Trouble, is_wanted, write_explained};
 
-/// Explains how a call ended where that is wanted. Running out of memory and a fault of standard error leave it out, and change
+/// Explains how a call ended where that is asked for. Running out of memory and a fault of standard error leave it out, and change
 /// nothing else.
 pub(crate) fn explain(
     rt: &HostRuntime,

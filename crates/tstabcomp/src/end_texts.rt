@@ -9,7 +9,7 @@ use ts_outside::Purpose;
 /// How the words may stand.
 const USAGE: &str = "tstabcomp --compile | --decompile | --canonical [INPUT [OUTPUT]]";
 
-/// What may stand after a word.
+/// What may come after a word.
 static ROWS: [WordRow; 1] = [WordRow {
     after: "",
     said: "the first word is --compile, --decompile or --canonical",

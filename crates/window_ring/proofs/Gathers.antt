@@ -83,7 +83,7 @@ module _ (key : Key) (table : TableId) (valid : IsValidPlan key.plan)
     falls (suc k) j le = ⊎_elim (λ same. subst (λ i. G (suc k) ≤ G i) (sym same) (omega arith))
         (λ apart. let a = falls k j (omega (arith, le, apart)) in let b = within (suc k) in let c = linked k in omega (arith, a, b, c)) (cases_eq j (suc k))
 
-    -- what stands at the beginning: the free cells
+    -- what is at the beginning: the free cells
     pub first_left : (value : State) → Stands key value history → (left : Left) → value.links.items ≡ left.all ∷ left.links.items → left.closed ≡ closed_of key.plan (progress_of_stages s) → Parted key s 0 left
     first_left value st left is closed =
         let first : slice_index_or value.links.items 0 no_row ≡ left.all = ap (λ l. slice_index_or l 0 no_row) is in

@@ -18,7 +18,7 @@ KeptBy plan rules input k [] = Unit {0}
 KeptBy plan rules input k (v ∷ vs) =
     KeptBy plan rules input k vs × (v.stage ≡ k → Keeps plan rules input (state_after plan vs) v)
 
--- all visits of stage `k` in a history stand in a part of it, and were made as its list says
+-- all visits of stage `k` in a history are in a part of it, and were made as its list says
 abbrev pub HasKept : CorePlan → List PluginRule → StageList → ℕ → List Visit → Type 0
 HasKept plan rules input k history =
     (seen : List Visit) × Since k seen history × KeptBy plan rules input k seen

@@ -12,7 +12,7 @@ use Rattle.window_ring.specs.declared.view.Holding.{Holding}
 abbrev pub NoneOf : ℕ → List Visit → Type 0
 NoneOf k visits = Each (λ (v : Visit). v.stage ≢ k) visits
 
--- of the visits of a history, the last one first, those of stage `k` all stand in `seen`, its earlier part
+-- of the visits of a history, the last one first, those of stage `k` are all in `seen`, its earlier part
 abbrev pub Since : ℕ → List Visit → List Visit → Type 0
 Since k seen history = (later : List Visit) × NoneOf k later × (history ≡ later ++ seen)
 

@@ -1,4 +1,6 @@
 //! The seats of a new ring, split from its root and joined into it again.
+//!
+//! The root is beside the ring: inside it, it would have to be reached through a shared reference.
 
 ghost use Rattle.std.specs.Prelude.{IfOk, IfErr, ◌≡◌, ◌+◌, ◌<◌, ℕ, List, [], ◌∷◌};
 ghost use Rattle.chain_core.specs.Machine.{Visit};

@@ -1,4 +1,8 @@
 //! The rule of the ring, as steps of its table.
+//!
+//! It holds one list of visits. What a seat knows is a part of that list, and numbers, links and marks are functions of
+//! it. So a visit that changes nothing is an event too, and a visit's number is the length of the list before it. Lists
+//! of what each stage gave and took, beside one another, would have to be kept in step.
 
 ghost use Rattle.std.specs.Prelude.{◌+◌, ◌++◌, []};
 ghost use Rattle.window_ring.specs.Turns.{Kept, Takes, Leaves};

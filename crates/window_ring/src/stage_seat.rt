@@ -1,4 +1,7 @@
 //! The seat of a stage.
+//!
+//! Cells are lifted out of it by value (`lift_front`, `put_front`), up to the block's end. A lent slice would have to
+//! write back through two types that have invariants.
 
 ghost use Rattle.std.specs.Prelude.{◌≡◌, ◌+◌, ◌<◌, ◌^◌, ◌++◌, ℕ, [], length, IfNone, IfSome};
 ghost use Rattle.window_ring.specs.Hands.{IsFront, LiftsFront, row_of};

@@ -1,4 +1,9 @@
 //! What a seat knows of the ring, in proofs alone.
+//!
+//! The key, which each view names, has where the block begins: a seat's steps are stated without the table's value, so
+//! that its hand is of this ring's block has to follow from the view alone. The view also remembers the stages that
+//! were found with the turn since the seat's last visit. Without that, a visit that always answers `Busy`, and never
+//! looks, would meet the clause.
 
 use chain_core::{CorePlan, StageWord};
 use std::collections::LinkedList;
