@@ -27,8 +27,9 @@ use Rattle.plug_tables.specs.TablesEntry.{tables_entry}
 use Rattle.plug_window.specs.CompactEntry.{compact_entry}
 use Rattle.plug_window.specs.RmorphanEntry.{rmorphan_entry}
 use Rattle.plug_pcr.specs.PcrverifyEntry.{pcrverify_entry}
+use Rattle.plug_times.specs.TimestampsEntry.{timestamps_entry}
 use Rattle.plugin_set.specs.declared.plugin_conf.PluginConf.{PluginConf}
-use Rattle.plugin_set.specs.declared.plugin_conf.PluginConf.TheVariants.{Filter, Skip, Slice, Pattern, Until, Count, Continuity, Remap, Inject, Pat, Cat, Pmt, Sdt, Nit, Zap, Svremove, Analyze, Info, Tables, Compact, Rmorphan, Pcrverify}
+use Rattle.plugin_set.specs.declared.plugin_conf.PluginConf.TheVariants.{Filter, Skip, Slice, Pattern, Until, Count, Continuity, Remap, Inject, Pat, Cat, Pmt, Sdt, Nit, Zap, Svremove, Analyze, Info, Tables, Compact, Rmorphan, Pcrverify, Timestamps}
 use Rattle.plugin_set.specs.declared.plugin_conf.PluginKind.{PluginKind}
 use Rattle.plugin_set.specs.declared.plugin_conf.PluginKind.TheVariants as kind
 
@@ -56,6 +57,7 @@ kinds = kind.Filter
     ∷ kind.Compact
     ∷ kind.Rmorphan
     ∷ kind.Pcrverify
+    ∷ kind.Timestamps
     ∷ []
 
 -- what is said of a kind
@@ -82,6 +84,7 @@ kind_entry kind.Tables = of_kind Tables tables_entry
 kind_entry kind.Compact = of_kind Compact compact_entry
 kind_entry kind.Rmorphan = of_kind Rmorphan rmorphan_entry
 kind_entry kind.Pcrverify = of_kind Pcrverify pcrverify_entry
+kind_entry kind.Timestamps = of_kind Timestamps timestamps_entry
 
 -- what is said of settings
 abbrev pub entry_of : PluginConf → ConfEntry PluginKind
@@ -107,6 +110,7 @@ entry_of (Tables conf) = of_conf kind.Tables tables_entry conf
 entry_of (Compact conf) = of_conf kind.Compact compact_entry conf
 entry_of (Rmorphan conf) = of_conf kind.Rmorphan rmorphan_entry conf
 entry_of (Pcrverify conf) = of_conf kind.Pcrverify pcrverify_entry conf
+entry_of (Timestamps conf) = of_conf kind.Timestamps timestamps_entry conf
 
 -- the name of a kind on the command line and in the reports
 abbrev pub name_of_kind : PluginKind → List ℕ

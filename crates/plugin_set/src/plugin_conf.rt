@@ -14,6 +14,7 @@ use plug_pass::{FilterConf, PatternConf, SkipConf, SliceConf};
 use plug_pcr::PcrverifyConf;
 use plug_service::{SvremoveConf, ZapConf};
 use plug_tables::TablesConf;
+use plug_times::TimestampsConf;
 use plug_watch::{ContinuityOptions, CountConf};
 use plug_window::{CompactConf, RmorphanConf};
 use plugin_entry::{PluginHelp, PluginSettings};
@@ -45,6 +46,7 @@ pub enum PluginConf {
     Compact(CompactConf),
     Rmorphan(RmorphanConf),
     Pcrverify(PcrverifyConf),
+    Timestamps(TimestampsConf),
 }
 
 /// A kind of plugin.
@@ -72,10 +74,11 @@ pub enum PluginKind {
     Compact,
     Rmorphan,
     Pcrverify,
+    Timestamps,
 }
 
 /// All kinds, in the order in which help names them.
-pub(crate) static KINDS: [PluginKind; 22] = [
+pub(crate) static KINDS: [PluginKind; 23] = [
     PluginKind::Filter,
     PluginKind::Skip,
     PluginKind::Slice,
@@ -98,95 +101,120 @@ pub(crate) static KINDS: [PluginKind; 22] = [
     PluginKind::Compact,
     PluginKind::Rmorphan,
     PluginKind::Pcrverify,
+    PluginKind::Timestamps,
 ];
+
+// What the settings of a kind have of this name.
+macro_rules! of_kind {
+    ($kind:expr, $name:ident($($given:expr),*)) => {
+        match $kind {
+            PluginKind::Filter => <FilterConf as PluginSettings>::$name($($given),*),
+            PluginKind::Skip => <SkipConf as PluginSettings>::$name($($given),*),
+            PluginKind::Slice => <SliceConf as PluginSettings>::$name($($given),*),
+            PluginKind::Pattern => <PatternConf as PluginSettings>::$name($($given),*),
+            PluginKind::Until => <UntilConf as PluginSettings>::$name($($given),*),
+            PluginKind::Count => <CountConf as PluginSettings>::$name($($given),*),
+            PluginKind::Continuity => <ContinuityOptions as PluginSettings>::$name($($given),*),
+            PluginKind::Remap => <RemapConf as PluginSettings>::$name($($given),*),
+            PluginKind::Inject => <InjectConf as PluginSettings>::$name($($given),*),
+            PluginKind::Pat => <EditPatConf as PluginSettings>::$name($($given),*),
+            PluginKind::Cat => <EditCatConf as PluginSettings>::$name($($given),*),
+            PluginKind::Pmt => <EditPmtConf as PluginSettings>::$name($($given),*),
+            PluginKind::Sdt => <EditSdtConf as PluginSettings>::$name($($given),*),
+            PluginKind::Nit => <EditNitConf as PluginSettings>::$name($($given),*),
+            PluginKind::Zap => <ZapConf as PluginSettings>::$name($($given),*),
+            PluginKind::Svremove => <SvremoveConf as PluginSettings>::$name($($given),*),
+            PluginKind::Analyze => <AnalyzeConf as PluginSettings>::$name($($given),*),
+            PluginKind::Info => <InfoConf as PluginSettings>::$name($($given),*),
+            PluginKind::Tables => <TablesConf as PluginSettings>::$name($($given),*),
+            PluginKind::Compact => <CompactConf as PluginSettings>::$name($($given),*),
+            PluginKind::Rmorphan => <RmorphanConf as PluginSettings>::$name($($given),*),
+            PluginKind::Pcrverify => <PcrverifyConf as PluginSettings>::$name($($given),*),
+            PluginKind::Timestamps => <TimestampsConf as PluginSettings>::$name($($given),*),
+        }
+    };
+}
+
+// The settings of a kind as settings of any kind.
+macro_rules! read_kind {
+    ($kind:expr, $alloc:expr, $found:expr) => {
+        match $kind {
+            PluginKind::Filter => <FilterConf as PluginSettings>::read($alloc, $found).map(PluginConf::Filter),
+            PluginKind::Skip => <SkipConf as PluginSettings>::read($alloc, $found).map(PluginConf::Skip),
+            PluginKind::Slice => <SliceConf as PluginSettings>::read($alloc, $found).map(PluginConf::Slice),
+            PluginKind::Pattern => <PatternConf as PluginSettings>::read($alloc, $found).map(PluginConf::Pattern),
+            PluginKind::Until => <UntilConf as PluginSettings>::read($alloc, $found).map(PluginConf::Until),
+            PluginKind::Count => <CountConf as PluginSettings>::read($alloc, $found).map(PluginConf::Count),
+            PluginKind::Continuity => <ContinuityOptions as PluginSettings>::read($alloc, $found).map(PluginConf::Continuity),
+            PluginKind::Remap => <RemapConf as PluginSettings>::read($alloc, $found).map(PluginConf::Remap),
+            PluginKind::Inject => <InjectConf as PluginSettings>::read($alloc, $found).map(PluginConf::Inject),
+            PluginKind::Pat => <EditPatConf as PluginSettings>::read($alloc, $found).map(PluginConf::Pat),
+            PluginKind::Cat => <EditCatConf as PluginSettings>::read($alloc, $found).map(PluginConf::Cat),
+            PluginKind::Pmt => <EditPmtConf as PluginSettings>::read($alloc, $found).map(PluginConf::Pmt),
+            PluginKind::Sdt => <EditSdtConf as PluginSettings>::read($alloc, $found).map(PluginConf::Sdt),
+            PluginKind::Nit => <EditNitConf as PluginSettings>::read($alloc, $found).map(PluginConf::Nit),
+            PluginKind::Zap => <ZapConf as PluginSettings>::read($alloc, $found).map(PluginConf::Zap),
+            PluginKind::Svremove => <SvremoveConf as PluginSettings>::read($alloc, $found).map(PluginConf::Svremove),
+            PluginKind::Analyze => <AnalyzeConf as PluginSettings>::read($alloc, $found).map(PluginConf::Analyze),
+            PluginKind::Info => <InfoConf as PluginSettings>::read($alloc, $found).map(PluginConf::Info),
+            PluginKind::Tables => <TablesConf as PluginSettings>::read($alloc, $found).map(PluginConf::Tables),
+            PluginKind::Compact => <CompactConf as PluginSettings>::read($alloc, $found).map(PluginConf::Compact),
+            PluginKind::Rmorphan => <RmorphanConf as PluginSettings>::read($alloc, $found).map(PluginConf::Rmorphan),
+            PluginKind::Pcrverify => <PcrverifyConf as PluginSettings>::read($alloc, $found).map(PluginConf::Pcrverify),
+            PluginKind::Timestamps => <TimestampsConf as PluginSettings>::read($alloc, $found).map(PluginConf::Timestamps),
+        }
+    };
+}
+
+// The same expression for the settings of each variant.
+macro_rules! each_conf {
+    ($some:expr, $conf:ident => $does:expr) => {
+        match $some {
+            PluginConf::Filter($conf) => $does,
+            PluginConf::Skip($conf) => $does,
+            PluginConf::Slice($conf) => $does,
+            PluginConf::Pattern($conf) => $does,
+            PluginConf::Until($conf) => $does,
+            PluginConf::Count($conf) => $does,
+            PluginConf::Continuity($conf) => $does,
+            PluginConf::Remap($conf) => $does,
+            PluginConf::Inject($conf) => $does,
+            PluginConf::Pat($conf) => $does,
+            PluginConf::Cat($conf) => $does,
+            PluginConf::Pmt($conf) => $does,
+            PluginConf::Sdt($conf) => $does,
+            PluginConf::Nit($conf) => $does,
+            PluginConf::Zap($conf) => $does,
+            PluginConf::Svremove($conf) => $does,
+            PluginConf::Analyze($conf) => $does,
+            PluginConf::Info($conf) => $does,
+            PluginConf::Tables($conf) => $does,
+            PluginConf::Compact($conf) => $does,
+            PluginConf::Rmorphan($conf) => $does,
+            PluginConf::Pcrverify($conf) => $does,
+            PluginConf::Timestamps($conf) => $does,
+        }
+    };
+}
 
 impl PluginKind {
     /// The name of the plugin on the command line and in the reports.
     pub fn name(self) -> &'static str
         ensures { result.now ≡ name_of_kind self }
     {
-        match self {
-            PluginKind::Filter => <FilterConf as PluginSettings>::name(),
-            PluginKind::Skip => <SkipConf as PluginSettings>::name(),
-            PluginKind::Slice => <SliceConf as PluginSettings>::name(),
-            PluginKind::Pattern => <PatternConf as PluginSettings>::name(),
-            PluginKind::Until => <UntilConf as PluginSettings>::name(),
-            PluginKind::Count => <CountConf as PluginSettings>::name(),
-            PluginKind::Continuity => <ContinuityOptions as PluginSettings>::name(),
-            PluginKind::Remap => <RemapConf as PluginSettings>::name(),
-            PluginKind::Inject => <InjectConf as PluginSettings>::name(),
-            PluginKind::Pat => <EditPatConf as PluginSettings>::name(),
-            PluginKind::Cat => <EditCatConf as PluginSettings>::name(),
-            PluginKind::Pmt => <EditPmtConf as PluginSettings>::name(),
-            PluginKind::Sdt => <EditSdtConf as PluginSettings>::name(),
-            PluginKind::Nit => <EditNitConf as PluginSettings>::name(),
-            PluginKind::Zap => <ZapConf as PluginSettings>::name(),
-            PluginKind::Svremove => <SvremoveConf as PluginSettings>::name(),
-            PluginKind::Analyze => <AnalyzeConf as PluginSettings>::name(),
-            PluginKind::Info => <InfoConf as PluginSettings>::name(),
-            PluginKind::Tables => <TablesConf as PluginSettings>::name(),
-            PluginKind::Compact => <CompactConf as PluginSettings>::name(),
-            PluginKind::Rmorphan => <RmorphanConf as PluginSettings>::name(),
-            PluginKind::Pcrverify => <PcrverifyConf as PluginSettings>::name(),
-        }
+        of_kind!(self, name())
     }
 
     /// Its own options with what is said of them.
     pub fn options(self) -> &'static [OptionRow<'static>]
         ensures { rows_of_options result.now ≡ (options_of_plugin self).rows }
     {
-        match self {
-            PluginKind::Filter => <FilterConf as PluginSettings>::options(),
-            PluginKind::Skip => <SkipConf as PluginSettings>::options(),
-            PluginKind::Slice => <SliceConf as PluginSettings>::options(),
-            PluginKind::Pattern => <PatternConf as PluginSettings>::options(),
-            PluginKind::Until => <UntilConf as PluginSettings>::options(),
-            PluginKind::Count => <CountConf as PluginSettings>::options(),
-            PluginKind::Continuity => <ContinuityOptions as PluginSettings>::options(),
-            PluginKind::Remap => <RemapConf as PluginSettings>::options(),
-            PluginKind::Inject => <InjectConf as PluginSettings>::options(),
-            PluginKind::Pat => <EditPatConf as PluginSettings>::options(),
-            PluginKind::Cat => <EditCatConf as PluginSettings>::options(),
-            PluginKind::Pmt => <EditPmtConf as PluginSettings>::options(),
-            PluginKind::Sdt => <EditSdtConf as PluginSettings>::options(),
-            PluginKind::Nit => <EditNitConf as PluginSettings>::options(),
-            PluginKind::Zap => <ZapConf as PluginSettings>::options(),
-            PluginKind::Svremove => <SvremoveConf as PluginSettings>::options(),
-            PluginKind::Analyze => <AnalyzeConf as PluginSettings>::options(),
-            PluginKind::Info => <InfoConf as PluginSettings>::options(),
-            PluginKind::Tables => <TablesConf as PluginSettings>::options(),
-            PluginKind::Compact => <CompactConf as PluginSettings>::options(),
-            PluginKind::Rmorphan => <RmorphanConf as PluginSettings>::options(),
-            PluginKind::Pcrverify => <PcrverifyConf as PluginSettings>::options(),
-        }
+        of_kind!(self, options())
     }
 
     /// What is said of it beside its options.
     pub fn help(self) -> PluginHelp {
-        match self {
-            PluginKind::Filter => <FilterConf as PluginSettings>::help(),
-            PluginKind::Skip => <SkipConf as PluginSettings>::help(),
-            PluginKind::Slice => <SliceConf as PluginSettings>::help(),
-            PluginKind::Pattern => <PatternConf as PluginSettings>::help(),
-            PluginKind::Until => <UntilConf as PluginSettings>::help(),
-            PluginKind::Count => <CountConf as PluginSettings>::help(),
-            PluginKind::Continuity => <ContinuityOptions as PluginSettings>::help(),
-            PluginKind::Remap => <RemapConf as PluginSettings>::help(),
-            PluginKind::Inject => <InjectConf as PluginSettings>::help(),
-            PluginKind::Pat => <EditPatConf as PluginSettings>::help(),
-            PluginKind::Cat => <EditCatConf as PluginSettings>::help(),
-            PluginKind::Pmt => <EditPmtConf as PluginSettings>::help(),
-            PluginKind::Sdt => <EditSdtConf as PluginSettings>::help(),
-            PluginKind::Nit => <EditNitConf as PluginSettings>::help(),
-            PluginKind::Zap => <ZapConf as PluginSettings>::help(),
-            PluginKind::Svremove => <SvremoveConf as PluginSettings>::help(),
-            PluginKind::Analyze => <AnalyzeConf as PluginSettings>::help(),
-            PluginKind::Info => <InfoConf as PluginSettings>::help(),
-            PluginKind::Tables => <TablesConf as PluginSettings>::help(),
-            PluginKind::Compact => <CompactConf as PluginSettings>::help(),
-            PluginKind::Rmorphan => <RmorphanConf as PluginSettings>::help(),
-            PluginKind::Pcrverify => <PcrverifyConf as PluginSettings>::help(),
-        }
+        of_kind!(self, help())
     }
 
     // The settings from the values of its own options.
@@ -198,72 +226,7 @@ impl PluginKind {
         ensures reads { ReadsParsed (options_of_plugin self) found.now result }
         ensures valid { IfOk result IsValid }
     {
-        match self {
-            PluginKind::Filter => <FilterConf as PluginSettings>::read(alloc, found).map(
-                PluginConf::Filter,
-            ),
-            PluginKind::Skip => <SkipConf as PluginSettings>::read(alloc, found).map(
-                PluginConf::Skip,
-            ),
-            PluginKind::Slice => <SliceConf as PluginSettings>::read(alloc, found).map(
-                PluginConf::Slice,
-            ),
-            PluginKind::Pattern => <PatternConf as PluginSettings>::read(alloc, found).map(
-                PluginConf::Pattern,
-            ),
-            PluginKind::Until => <UntilConf as PluginSettings>::read(alloc, found).map(
-                PluginConf::Until,
-            ),
-            PluginKind::Count => <CountConf as PluginSettings>::read(alloc, found).map(
-                PluginConf::Count,
-            ),
-            PluginKind::Continuity => <ContinuityOptions as PluginSettings>::read(alloc, found).map(
-                PluginConf::Continuity,
-            ),
-            PluginKind::Remap => <RemapConf as PluginSettings>::read(alloc, found).map(
-                PluginConf::Remap,
-            ),
-            PluginKind::Inject => <InjectConf as PluginSettings>::read(alloc, found).map(
-                PluginConf::Inject,
-            ),
-            PluginKind::Pat => <EditPatConf as PluginSettings>::read(alloc, found).map(
-                PluginConf::Pat,
-            ),
-            PluginKind::Cat => <EditCatConf as PluginSettings>::read(alloc, found).map(
-                PluginConf::Cat,
-            ),
-            PluginKind::Pmt => <EditPmtConf as PluginSettings>::read(alloc, found).map(
-                PluginConf::Pmt,
-            ),
-            PluginKind::Sdt => <EditSdtConf as PluginSettings>::read(alloc, found).map(
-                PluginConf::Sdt,
-            ),
-            PluginKind::Nit => <EditNitConf as PluginSettings>::read(alloc, found).map(
-                PluginConf::Nit,
-            ),
-            PluginKind::Zap => <ZapConf as PluginSettings>::read(alloc, found).map(PluginConf::Zap),
-            PluginKind::Svremove => <SvremoveConf as PluginSettings>::read(alloc, found).map(
-                PluginConf::Svremove,
-            ),
-            PluginKind::Analyze => <AnalyzeConf as PluginSettings>::read(alloc, found).map(
-                PluginConf::Analyze,
-            ),
-            PluginKind::Info => <InfoConf as PluginSettings>::read(alloc, found).map(
-                PluginConf::Info,
-            ),
-            PluginKind::Tables => <TablesConf as PluginSettings>::read(alloc, found).map(
-                PluginConf::Tables,
-            ),
-            PluginKind::Compact => <CompactConf as PluginSettings>::read(alloc, found).map(
-                PluginConf::Compact,
-            ),
-            PluginKind::Rmorphan => <RmorphanConf as PluginSettings>::read(alloc, found).map(
-                PluginConf::Rmorphan,
-            ),
-            PluginKind::Pcrverify => <PcrverifyConf as PluginSettings>::read(alloc, found).map(
-                PluginConf::Pcrverify,
-            ),
-        }
+        read_kind!(self, alloc, found)
     }
 }
 
@@ -295,6 +258,7 @@ impl PluginConf {
             PluginConf::Compact(_) => PluginKind::Compact,
             PluginConf::Rmorphan(_) => PluginKind::Rmorphan,
             PluginConf::Pcrverify(_) => PluginKind::Pcrverify,
+            PluginConf::Timestamps(_) => PluginKind::Timestamps,
         }
     }
 
@@ -310,59 +274,13 @@ impl PluginConf {
     pub fn table_file(&self) -> Option<&str>
         ensures { option_map (λ name. name.now) result ≡ table_file_of self.now }
     {
-        match self {
-            PluginConf::Filter(conf) => conf.table_file(),
-            PluginConf::Skip(conf) => conf.table_file(),
-            PluginConf::Slice(conf) => conf.table_file(),
-            PluginConf::Pattern(conf) => conf.table_file(),
-            PluginConf::Until(conf) => conf.table_file(),
-            PluginConf::Count(conf) => conf.table_file(),
-            PluginConf::Continuity(conf) => conf.table_file(),
-            PluginConf::Remap(conf) => conf.table_file(),
-            PluginConf::Inject(conf) => conf.table_file(),
-            PluginConf::Pat(conf) => conf.table_file(),
-            PluginConf::Cat(conf) => conf.table_file(),
-            PluginConf::Pmt(conf) => conf.table_file(),
-            PluginConf::Sdt(conf) => conf.table_file(),
-            PluginConf::Nit(conf) => conf.table_file(),
-            PluginConf::Zap(conf) => conf.table_file(),
-            PluginConf::Svremove(conf) => conf.table_file(),
-            PluginConf::Analyze(conf) => conf.table_file(),
-            PluginConf::Info(conf) => conf.table_file(),
-            PluginConf::Tables(conf) => conf.table_file(),
-            PluginConf::Compact(conf) => conf.table_file(),
-            PluginConf::Rmorphan(conf) => conf.table_file(),
-            PluginConf::Pcrverify(conf) => conf.table_file(),
-        }
+        each_conf!(self, conf => conf.table_file())
     }
 
     /// Whether the plugin uses joint termination.
     pub fn uses_joint_termination(&self) -> bool
         ensures { result ≡ uses_joint self.now }
     {
-        match self {
-            PluginConf::Filter(conf) => conf.uses_joint_termination(),
-            PluginConf::Skip(conf) => conf.uses_joint_termination(),
-            PluginConf::Slice(conf) => conf.uses_joint_termination(),
-            PluginConf::Pattern(conf) => conf.uses_joint_termination(),
-            PluginConf::Until(conf) => conf.uses_joint_termination(),
-            PluginConf::Count(conf) => conf.uses_joint_termination(),
-            PluginConf::Continuity(conf) => conf.uses_joint_termination(),
-            PluginConf::Remap(conf) => conf.uses_joint_termination(),
-            PluginConf::Inject(conf) => conf.uses_joint_termination(),
-            PluginConf::Pat(conf) => conf.uses_joint_termination(),
-            PluginConf::Cat(conf) => conf.uses_joint_termination(),
-            PluginConf::Pmt(conf) => conf.uses_joint_termination(),
-            PluginConf::Sdt(conf) => conf.uses_joint_termination(),
-            PluginConf::Nit(conf) => conf.uses_joint_termination(),
-            PluginConf::Zap(conf) => conf.uses_joint_termination(),
-            PluginConf::Svremove(conf) => conf.uses_joint_termination(),
-            PluginConf::Analyze(conf) => conf.uses_joint_termination(),
-            PluginConf::Info(conf) => conf.uses_joint_termination(),
-            PluginConf::Tables(conf) => conf.uses_joint_termination(),
-            PluginConf::Compact(conf) => conf.uses_joint_termination(),
-            PluginConf::Rmorphan(conf) => conf.uses_joint_termination(),
-            PluginConf::Pcrverify(conf) => conf.uses_joint_termination(),
-        }
+        each_conf!(self, conf => conf.uses_joint_termination())
     }
 }

@@ -12,7 +12,7 @@ ghost use Rattle.plugin_options.specs.declared.words_rule.WordsRule.TheVariants.
 ghost use Rattle.plugin_set.specs.declared.plugin_conf.PluginConf.{PluginConf as GivenConf};
 ghost use Rattle.plugin_options.specs.OptionWords.{row_of_word};
 ghost use Rattle.plugin_set.specs.Items.{IsValidItem, only_label_row, options_of_item, with_only_label};
-ghost use Rattle.plugin_set.specs.Plugins.{IsValid, name_of_kind, plugin_kind_named};
+ghost use Rattle.plugin_set.specs.Plugins.{IsValid, kinds, name_of_kind, plugin_kind_named};
 
 use crate::plugin_conf::{KINDS, PluginConf, PluginKind};
 use crate::plugin_item::PluginItem;
@@ -62,7 +62,9 @@ impl PluginKind {
     }
 
     /// All kinds, in the order in which help names them.
-    pub fn all() -> &'static [PluginKind] {
+    pub fn all() -> &'static [PluginKind]
+        ensures { result.now ≡ kinds }
+    {
         &KINDS
     }
 

@@ -17,6 +17,7 @@ use plug_pass::{Filter, Pattern, Skip, Slice, new_filter, new_pattern, new_skip,
 use plug_pcr::Pcrverify;
 use plug_service::{Svremove, Zap, new_svremove, new_zap};
 use plug_tables::Tables;
+use plug_times::Timestamps;
 use plug_watch::{Continuity, Count};
 use plug_window::{Compact, Rmorphan, new_compact, new_rmorphan};
 use plugin_trait::{Applied, Line, Outcome, Plugin};
@@ -49,6 +50,7 @@ pub(crate) enum SomePlugin {
     Compact(Compact),
     Rmorphan(Rmorphan),
     Pcrverify(Pcrverify),
+    Timestamps(Timestamps),
 }
 
 // The same expression for the plugin of each variant.
@@ -77,6 +79,7 @@ macro_rules! each_plugin {
             SomePlugin::Compact($plugin) => $does,
             SomePlugin::Rmorphan($plugin) => $does,
             SomePlugin::Pcrverify($plugin) => $does,
+            SomePlugin::Timestamps($plugin) => $does,
         }
     };
 }
@@ -87,6 +90,37 @@ macro_rules! made {
         match $new {
             Ok(plugin) => Ok($variant(plugin)),
             Err(error) => Err(error),
+        }
+    };
+}
+
+// The plugin of these settings as a plugin of any kind.
+macro_rules! made_of {
+    ($settings:expr, $alloc:expr, $sections:expr, $buffer:expr) => {
+        match $settings {
+            PluginConf::Filter(conf) => made!(new_filter($alloc,conf,$buffer), SomePlugin::Filter),
+            PluginConf::Skip(conf) => made!(new_skip($alloc,conf,$buffer), SomePlugin::Skip),
+            PluginConf::Slice(conf) => made!(new_slice($alloc,conf,$buffer), SomePlugin::Slice),
+            PluginConf::Pattern(conf) => made!(new_pattern($alloc,conf,$buffer), SomePlugin::Pattern),
+            PluginConf::Until(conf) => made!(Until::new($alloc,conf,$buffer), SomePlugin::Until),
+            PluginConf::Count(conf) => made!(Count::new($alloc,conf,$buffer), SomePlugin::Count),
+            PluginConf::Continuity(conf) => made!(Continuity::new($alloc,&conf.counters,$buffer), SomePlugin::Continuity),
+            PluginConf::Remap(conf) => made!(new_remap($alloc,conf,$buffer), SomePlugin::Remap),
+            PluginConf::Inject(conf) => made!(new_inject($alloc,conf,$sections), SomePlugin::Inject),
+            PluginConf::Pat(conf) => made!(new_edit_pat($alloc,conf,$buffer), SomePlugin::Pat),
+            PluginConf::Cat(conf) => made!(new_edit_cat($alloc,conf,$buffer), SomePlugin::Cat),
+            PluginConf::Pmt(conf) => made!(new_edit_pmt($alloc,conf,$buffer), SomePlugin::Pmt),
+            PluginConf::Sdt(conf) => made!(new_edit_sdt($alloc,conf,$buffer), SomePlugin::Sdt),
+            PluginConf::Nit(conf) => made!(new_edit_nit($alloc,conf,$buffer), SomePlugin::Nit),
+            PluginConf::Zap(conf) => made!(new_zap($alloc,&conf.service,$buffer), SomePlugin::Zap),
+            PluginConf::Svremove(conf) => made!(new_svremove($alloc,&conf.service,$buffer), SomePlugin::Svremove),
+            PluginConf::Analyze(conf) => made!(Analyze::new($alloc,conf,$buffer), SomePlugin::Analyze),
+            PluginConf::Info(conf) => made!(Info::new($alloc,conf,$buffer), SomePlugin::Info),
+            PluginConf::Tables(conf) => made!(Tables::new($alloc,conf,$buffer), SomePlugin::Tables),
+            PluginConf::Compact(conf) => made!(new_compact($alloc,&conf.window,$buffer), SomePlugin::Compact),
+            PluginConf::Rmorphan(conf) => made!(new_rmorphan($alloc,&conf.window), SomePlugin::Rmorphan),
+            PluginConf::Pcrverify(conf) => made!(Pcrverify::new($alloc,conf,$buffer), SomePlugin::Pcrverify),
+            PluginConf::Timestamps(conf) => made!(Timestamps::new($alloc,conf,$buffer), SomePlugin::Timestamps),
         }
     };
 }
@@ -109,60 +143,13 @@ impl SomePlugin {
         ensures preallocated { IfOk result (λ plugin. ⟦<SomePlugin as Plugin>⟧.preallocated plugin ≡ preallocated_of conf.now buffer) }
         ensures silent { IfOk result (λ plugin. ⟦<SomePlugin as Plugin>⟧.silent plugin ≡ is_silent conf.now) }
     {
-        match conf {
-            PluginConf::Filter(conf) => made!(new_filter(alloc, conf, buffer), SomePlugin::Filter),
-            PluginConf::Skip(conf) => made!(new_skip(alloc, conf, buffer), SomePlugin::Skip),
-            PluginConf::Slice(conf) => made!(new_slice(alloc, conf, buffer), SomePlugin::Slice),
-            PluginConf::Pattern(conf) => made!(
-                new_pattern(alloc, conf, buffer),
-                SomePlugin::Pattern
-            ),
-            PluginConf::Until(conf) => made!(Until::new(alloc, conf, buffer), SomePlugin::Until),
-            PluginConf::Count(conf) => made!(Count::new(alloc, conf, buffer), SomePlugin::Count),
-            PluginConf::Continuity(conf) => made!(
-                Continuity::new(alloc, &conf.counters, buffer),
-                SomePlugin::Continuity
-            ),
-            PluginConf::Remap(conf) => made!(new_remap(alloc, conf, buffer), SomePlugin::Remap),
-            PluginConf::Inject(conf) => made!(
-                new_inject(alloc, conf, sections),
-                SomePlugin::Inject
-            ),
-            PluginConf::Pat(conf) => made!(new_edit_pat(alloc, conf, buffer), SomePlugin::Pat),
-            PluginConf::Cat(conf) => made!(new_edit_cat(alloc, conf, buffer), SomePlugin::Cat),
-            PluginConf::Pmt(conf) => made!(new_edit_pmt(alloc, conf, buffer), SomePlugin::Pmt),
-            PluginConf::Sdt(conf) => made!(new_edit_sdt(alloc, conf, buffer), SomePlugin::Sdt),
-            PluginConf::Nit(conf) => made!(new_edit_nit(alloc, conf, buffer), SomePlugin::Nit),
-            PluginConf::Zap(conf) => made!(new_zap(alloc, &conf.service, buffer), SomePlugin::Zap),
-            PluginConf::Svremove(conf) => made!(
-                new_svremove(alloc, &conf.service, buffer),
-                SomePlugin::Svremove
-            ),
-            PluginConf::Analyze(conf) => made!(
-                Analyze::new(alloc, conf, buffer),
-                SomePlugin::Analyze
-            ),
-            PluginConf::Info(conf) => made!(Info::new(alloc, conf, buffer), SomePlugin::Info),
-            PluginConf::Tables(conf) => made!(Tables::new(alloc, conf, buffer), SomePlugin::Tables),
-            PluginConf::Compact(conf) => made!(
-                new_compact(alloc, &conf.window, buffer),
-                SomePlugin::Compact
-            ),
-            PluginConf::Rmorphan(conf) => made!(
-                new_rmorphan(alloc, &conf.window),
-                SomePlugin::Rmorphan
-            ),
-            PluginConf::Pcrverify(conf) => made!(
-                Pcrverify::new(alloc, conf, buffer),
-                SomePlugin::Pcrverify
-            ),
-        }
+        made_of!(conf, alloc, sections, buffer)
     }
 }
 
 impl Plugin for SomePlugin {
     ghost use Rattle.std.specs.Prelude.{refl};
-    ghost use Rattle.plugin_set.specs.declared.some_plugin.SomePlugin.TheVariants.{Filter as MadeFilter, Skip as MadeSkip, Slice as MadeSlice, Pattern as MadePattern, Until as MadeUntil, Count as MadeCount, Continuity as MadeContinuity, Remap as MadeRemap, Inject as MadeInject, Pat as MadePat, Cat as MadeCat, Pmt as MadePmt, Sdt as MadeSdt, Nit as MadeNit, Zap as MadeZap, Svremove as MadeSvremove, Analyze as MadeAnalyze, Info as MadeInfo, Tables as MadeTables, Compact as MadeCompact, Rmorphan as MadeRmorphan, Pcrverify as MadePcrverify};
+    ghost use Rattle.plugin_set.specs.declared.some_plugin.SomePlugin.TheVariants.{Filter as MadeFilter, Skip as MadeSkip, Slice as MadeSlice, Pattern as MadePattern, Until as MadeUntil, Count as MadeCount, Continuity as MadeContinuity, Remap as MadeRemap, Inject as MadeInject, Pat as MadePat, Cat as MadeCat, Pmt as MadePmt, Sdt as MadeSdt, Nit as MadeNit, Zap as MadeZap, Svremove as MadeSvremove, Analyze as MadeAnalyze, Info as MadeInfo, Tables as MadeTables, Compact as MadeCompact, Rmorphan as MadeRmorphan, Pcrverify as MadePcrverify, Timestamps as MadeTimestamps};
 
     ghost rule = { elim [
       | MadeFilter p ↦ ⟦<Filter as Plugin>⟧.rule p
@@ -187,6 +174,7 @@ impl Plugin for SomePlugin {
       | MadeCompact p ↦ ⟦<Compact as Plugin>⟧.rule p
       | MadeRmorphan p ↦ ⟦<Rmorphan as Plugin>⟧.rule p
       | MadePcrverify p ↦ ⟦<Pcrverify as Plugin>⟧.rule p
+      | MadeTimestamps p ↦ ⟦<Timestamps as Plugin>⟧.rule p
     ] };
 
     ghost stands_for = { elim [
@@ -212,6 +200,7 @@ impl Plugin for SomePlugin {
       | MadeCompact p ↦ ⟦<Compact as Plugin>⟧.stands_for p
       | MadeRmorphan p ↦ ⟦<Rmorphan as Plugin>⟧.stands_for p
       | MadePcrverify p ↦ ⟦<Pcrverify as Plugin>⟧.stands_for p
+      | MadeTimestamps p ↦ ⟦<Timestamps as Plugin>⟧.stands_for p
     ] };
 
     ghost preallocated = { elim [
@@ -237,6 +226,7 @@ impl Plugin for SomePlugin {
       | MadeCompact p ↦ ⟦<Compact as Plugin>⟧.preallocated p
       | MadeRmorphan p ↦ ⟦<Rmorphan as Plugin>⟧.preallocated p
       | MadePcrverify p ↦ ⟦<Pcrverify as Plugin>⟧.preallocated p
+      | MadeTimestamps p ↦ ⟦<Timestamps as Plugin>⟧.preallocated p
     ] };
 
     ghost silent = { elim [
@@ -262,6 +252,7 @@ impl Plugin for SomePlugin {
       | MadeCompact p ↦ ⟦<Compact as Plugin>⟧.silent p
       | MadeRmorphan p ↦ ⟦<Rmorphan as Plugin>⟧.silent p
       | MadePcrverify p ↦ ⟦<Pcrverify as Plugin>⟧.silent p
+      | MadeTimestamps p ↦ ⟦<Timestamps as Plugin>⟧.silent p
     ] };
 
     fn step(&mut self, at: u64, packet: &mut Packet, labels: &mut Labels) -> Outcome {
@@ -315,5 +306,6 @@ impl Plugin for SomePlugin {
       | MadeCompact p ↦ λ history mark stands. refl
       | MadeRmorphan p ↦ λ history mark stands. refl
       | MadePcrverify p ↦ λ history mark stands. refl
+      | MadeTimestamps p ↦ λ history mark stands. refl
     ] };
 }

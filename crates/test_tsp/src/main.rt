@@ -39,6 +39,7 @@ mod rate_rows;
 mod row;
 mod service_rows;
 mod small_pieces;
+mod stamp_rows;
 mod stream_rows;
 mod table_rows;
 mod threads;
@@ -94,7 +95,7 @@ fn write_tables<R: Threads + Wait + Sync + AllocGlobal>(
 }
 
 /// All tables, in the order in which they are printed.
-fn tables() -> [&'static [Row]; 34] {
+fn tables() -> [&'static [Row]; 36] {
     [
         end_rows::rows(),
         plugin_rows::rows(),
@@ -106,6 +107,7 @@ fn tables() -> [&'static [Row]; 34] {
         window_rows::rows(),
         stream_rows::rows(),
         clock_rows::rows(),
+        stamp_rows::rows(),
         info_rows::rows(),
         rate_rows::rows(),
         name_rows::rows(),
@@ -129,6 +131,7 @@ fn tables() -> [&'static [Row]; 34] {
         window_rows::of_words(),
         stream_rows::of_words(),
         clock_rows::of_words(),
+        stamp_rows::of_words(),
         info_rows::of_words(),
     ]
 }

@@ -66,3 +66,6 @@ returns-in-Rmorphan c = rw c.in-Rmorphan.is c.name-in-Rmorphan.ensures
 
 pub returns-in-Pcrverify : goal.returns-in-Pcrverify
 returns-in-Pcrverify c = rw c.in-Pcrverify.is c.name-in-Pcrverify.ensures
+
+pub returns-in-Timestamps : goal.returns-in-Timestamps
+returns-in-Timestamps c = rw c.in-Timestamps.is c.name-in-Timestamps.ensures

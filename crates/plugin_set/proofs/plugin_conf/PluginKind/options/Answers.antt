@@ -66,3 +66,6 @@ returns-in-Rmorphan c = rw c.in-Rmorphan.is c.options-in-Rmorphan.ensures
 
 pub returns-in-Pcrverify : goal.returns-in-Pcrverify
 returns-in-Pcrverify c = rw c.in-Pcrverify.is c.options-in-Pcrverify.ensures
+
+pub returns-in-Timestamps : goal.returns-in-Timestamps
+returns-in-Timestamps c = rw c.in-Timestamps.is c.options-in-Timestamps.ensures

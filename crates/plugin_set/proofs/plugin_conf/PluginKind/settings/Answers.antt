@@ -21,6 +21,7 @@ use Rattle.plug_tables.specs.TablesEntry.{tables_entry}
 use Rattle.plug_window.specs.CompactEntry.{compact_entry}
 use Rattle.plug_window.specs.RmorphanEntry.{rmorphan_entry}
 use Rattle.plug_pcr.specs.PcrverifyEntry.{pcrverify_entry}
+use Rattle.plug_times.specs.TimestampsEntry.{timestamps_entry}
 use Rattle.plugin_set.specs.Plugins.{IsValid}
 use Rattle.plugin_set.specs.declared.plugin_conf.PluginConf.TheVariants as conf
 use Rattle.plugin_set.proofs.ArmLemmas.{made, read_into}
@@ -157,3 +158,9 @@ returns-in-Pcrverify-clause-reads c = rw c.in-Pcrverify.is (read_into conf.Pcrve
 
 pub returns-in-Pcrverify-clause-valid : goal.returns-in-Pcrverify-clause-valid
 returns-in-Pcrverify-clause-valid c = made conf.Pcrverify _ IsValid _ _ c.map-in-Pcrverify.ensures.cases (λ _ p. p) c.read-in-Pcrverify.ensures.valid
+
+pub returns-in-Timestamps-clause-reads : goal.returns-in-Timestamps-clause-reads
+returns-in-Timestamps-clause-reads c = rw c.in-Timestamps.is (read_into conf.Timestamps timestamps_entry.options c.args.found.now _ _ c.map-in-Timestamps.ensures.cases c.read-in-Timestamps.ensures.reads)
+
+pub returns-in-Timestamps-clause-valid : goal.returns-in-Timestamps-clause-valid
+returns-in-Timestamps-clause-valid c = made conf.Timestamps _ IsValid _ _ c.map-in-Timestamps.ensures.cases (λ _ p. p) c.read-in-Timestamps.ensures.valid

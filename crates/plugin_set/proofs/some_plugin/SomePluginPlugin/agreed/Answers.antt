@@ -132,3 +132,9 @@ agreed-requires-in-Pcrverify c = rw c.in-Pcrverify.is at c.requires
 
 pub returns-in-Pcrverify : goal.returns-in-Pcrverify
 returns-in-Pcrverify c = rw c.in-Pcrverify.is c.agreed-in-Pcrverify.ensures
+
+pub agreed-requires-in-Timestamps : goal.agreed-requires-in-Timestamps
+agreed-requires-in-Timestamps c = rw c.in-Timestamps.is at c.requires
+
+pub returns-in-Timestamps : goal.returns-in-Timestamps
+returns-in-Timestamps c = rw c.in-Timestamps.is c.agreed-in-Timestamps.ensures

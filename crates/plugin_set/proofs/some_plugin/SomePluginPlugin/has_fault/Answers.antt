@@ -132,3 +132,9 @@ has_fault-requires-in-Pcrverify c = rw c.in-Pcrverify.is at c.requires
 
 pub returns-in-Pcrverify : goal.returns-in-Pcrverify
 returns-in-Pcrverify c = rw c.in-Pcrverify.is c.has_fault-in-Pcrverify.ensures
+
+pub has_fault-requires-in-Timestamps : goal.has_fault-requires-in-Timestamps
+has_fault-requires-in-Timestamps c = rw c.in-Timestamps.is at c.requires
+
+pub returns-in-Timestamps : goal.returns-in-Timestamps
+returns-in-Timestamps c = rw c.in-Timestamps.is c.has_fault-in-Timestamps.ensures

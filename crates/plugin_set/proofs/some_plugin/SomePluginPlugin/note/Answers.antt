@@ -155,3 +155,9 @@ note-requires-in-Pcrverify c = rw c.in-Pcrverify.is at c.requires
 
 pub returns-in-Pcrverify : goal.returns-in-Pcrverify
 returns-in-Pcrverify c = rw c.in-Pcrverify.is c.note-in-Pcrverify.ensures
+
+pub note-requires-in-Timestamps : goal.note-requires-in-Timestamps
+note-requires-in-Timestamps c = rw c.in-Timestamps.is at c.requires
+
+pub returns-in-Timestamps : goal.returns-in-Timestamps
+returns-in-Timestamps c = rw c.in-Timestamps.is c.note-in-Timestamps.ensures

@@ -143,3 +143,9 @@ pass_over-requires-in-Pcrverify c = rw c.in-Pcrverify.is at c.requires
 
 pub returns-in-Pcrverify : goal.returns-in-Pcrverify
 returns-in-Pcrverify c = rw c.in-Pcrverify.is c.pass_over-in-Pcrverify.ensures
+
+pub pass_over-requires-in-Timestamps : goal.pass_over-requires-in-Timestamps
+pass_over-requires-in-Timestamps c = rw c.in-Timestamps.is at c.requires
+
+pub returns-in-Timestamps : goal.returns-in-Timestamps
+returns-in-Timestamps c = rw c.in-Timestamps.is c.pass_over-in-Timestamps.ensures

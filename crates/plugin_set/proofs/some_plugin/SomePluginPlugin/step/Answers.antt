@@ -154,3 +154,9 @@ step-requires-in-Pcrverify c = rw c.in-Pcrverify.is at c.requires
 
 pub returns-in-Pcrverify : goal.returns-in-Pcrverify
 returns-in-Pcrverify c = rw c.in-Pcrverify.is c.step-in-Pcrverify.ensures
+
+pub step-requires-in-Timestamps : goal.step-requires-in-Timestamps
+step-requires-in-Timestamps c = rw c.in-Timestamps.is at c.requires
+
+pub returns-in-Timestamps : goal.returns-in-Timestamps
+returns-in-Timestamps c = rw c.in-Timestamps.is c.step-in-Timestamps.ensures

@@ -132,3 +132,9 @@ steps-requires-in-Pcrverify c = rw c.in-Pcrverify.is at c.requires
 
 pub returns-in-Pcrverify : goal.returns-in-Pcrverify
 returns-in-Pcrverify c = rw c.in-Pcrverify.is c.steps-in-Pcrverify.ensures
+
+pub steps-requires-in-Timestamps : goal.steps-requires-in-Timestamps
+steps-requires-in-Timestamps c = rw c.in-Timestamps.is at c.requires
+
+pub returns-in-Timestamps : goal.returns-in-Timestamps
+returns-in-Timestamps c = rw c.in-Timestamps.is c.steps-in-Timestamps.ensures

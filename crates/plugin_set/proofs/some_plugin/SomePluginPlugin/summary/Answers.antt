@@ -132,3 +132,9 @@ summary-requires-in-Pcrverify c = rw c.in-Pcrverify.is at c.requires
 
 pub returns-in-Pcrverify : goal.returns-in-Pcrverify
 returns-in-Pcrverify c = rw c.in-Pcrverify.is c.summary-in-Pcrverify.ensures
+
+pub summary-requires-in-Timestamps : goal.summary-requires-in-Timestamps
+summary-requires-in-Timestamps c = rw c.in-Timestamps.is at c.requires
+
+pub returns-in-Timestamps : goal.returns-in-Timestamps
+returns-in-Timestamps c = rw c.in-Timestamps.is c.summary-in-Timestamps.ensures

@@ -1,0 +1,8 @@
+pub mod StampBytes
+pub mod Telling
+pub mod Flat
+pub mod Stepping
+pub mod Rowing
+pub mod Following
+pub mod Summing
+mod Rows
