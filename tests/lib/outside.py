@@ -44,7 +44,8 @@ def run(words, folder, **more):
 @contextlib.contextmanager
 def begun(words, folder, **more):
     """A run that goes on beside the caller, and ends with it."""
-    with subprocess.Popen(words, cwd=folder, bufsize=0, stdout=subprocess.PIPE, stderr=subprocess.PIPE, **more) as running:
+    streams = {"stdout": subprocess.PIPE, "stderr": subprocess.PIPE, **more}
+    with subprocess.Popen(words, cwd=folder, bufsize=0, **streams) as running:
         try:
             yield running
         finally:

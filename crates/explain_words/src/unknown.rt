@@ -13,7 +13,7 @@ fn network_text(first: &str) -> &'static str {
     match first {
         "-I" => "datagrams come through a pipe: socat -u UDP4-RECV:PORT - | tsp .., without -I\n",
         "-O" =>
-            "datagrams go through a pipe: tsp .. | dd ibs=1316 obs=1316 iflag=fullblock | socat -u -b 1316 - UDP4-DATAGRAM:ADDRESS:PORT\n",
+            "datagrams go through a pipe: tsp .. | socat -u -b 1316 - UDP4-DATAGRAM:ADDRESS:PORT\n",
         _ => "",
     }
 }

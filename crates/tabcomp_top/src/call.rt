@@ -11,10 +11,8 @@ use crate::putting::put;
 use crate::status::TabStatus;
 use crate::telling::tell;
 use std::alloc::Global;
+use tabcomp_core::MOST_BYTES;
 use ts_outside::{Desk, FileFault};
-
-/// The greatest size of an input in bytes.
-const MOST_BYTES: usize = 16_777_216;
 
 /// Converts bytes that were read, and writes the result.
 fn convert_and_put<D: Desk>(alloc: Global, job: Job<'_>, desk: &mut D, bytes: &[u8]) -> TabStatus

@@ -4,11 +4,15 @@
 
 mod calls;
 mod file_id;
+mod file_kind;
 mod noted;
 mod open_files;
+mod opened;
+mod opening;
 mod os_desk;
 mod os_sink;
 mod os_source;
+mod read_ahead;
 mod reason;
 mod saying;
 mod trouble;

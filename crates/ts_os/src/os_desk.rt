@@ -10,14 +10,13 @@ ghost use Rattle.ts_outside.specs.Desk.{stream_name, content, asked_well, asked_
 ghost use Rattle.ts_os.specs.Untold.{untold_desk, untold_sink, untold_source};
 
 use crate::calls::write_some;
-use crate::file_id::FileId;
 use crate::noted::Noted;
 use crate::open_files::OpenFiles;
+use crate::opening::{open_input, protect_named, with_room};
 use crate::os_sink::OsSink;
 use crate::os_source::OsSource;
 use crate::reason::Reason;
 use std::alloc::AllocError;
-use std::fs::metadata;
 use std::marker::Model;
 use ts_outside::{
     Desk, Failed, FileBytes, FileFault, NameText, OpenFault, Purpose, one_more, read_to_end,
@@ -91,51 +90,6 @@ impl OsDesk {
     }
 }
 
-// The source of a name that may be opened as an input, with this number.
-fn open_input(
-    rt: &HostRuntime,
-    files: &mut OpenFiles,
-    named: &str,
-    number: u64,
-) -> Result<OsSource, Reason>
-    requires { vec_len files.old.inputs < vec_capacity files.old.inputs }
-    ensures { IfOk result (λ s. s ≡ 0) }
-{
-    let source = OsSource::open(rt, named, number)?;
-    if let Some(id) = source.file {
-        if !files.may_read(id) {
-            source.into_reason();
-            return Err(Reason::InUse);
-        }
-        files.read_from(id);
-    }
-    Ok(source)
-}
-
-// Protects, for each of these names, the file that the system answers for it.
-fn protect_named(
-    rt: &HostRuntime,
-    files: &mut OpenFiles,
-    names: &[NameText],
-) -> Result<(), AllocError>
-    ensures each { OnOk result (length files.new.protected.items ≡ length names.now) }
-    ensures failed { OnErr result (files.new ≡ files.old) }
-    ensures inputs { files.new.inputs ≡ files.old.inputs }
-    ensures outputs { files.new.outputs ≡ files.old.outputs }
-{
-    let mut answers = Vec::new(rt.alloc());
-    for name in names {
-        answers.push(regular(rt, name.as_str()))?;
-    }
-    files.protect(answers);
-    Ok(())
-}
-
-/// The regular file of a name; `None` where there is none.
-fn regular(rt: &HostRuntime, named: &str) -> Option<FileId> {
-    FileId::of(&metadata(rt, named).ok()?)
-}
-
 impl Desk for OsDesk {
     type In = OsSource;
 
@@ -158,7 +112,7 @@ impl Desk for OsDesk {
         }
         let number = self.noted.next_input();
         match open_input(&self.rt, &mut self.files, name.unwrap_or(""), number) {
-            Ok(source) => Ok(source),
+            Ok(source) => with_room(self.rt.alloc(), source),
             Err(reason) => {
                 self.noted.note(Purpose::Input, number, reason);
                 self.read_faults = one_more(self.read_faults);
@@ -210,7 +164,9 @@ impl Desk for OsDesk {
     {
         let OsSource {
             from: _,
+            kind: _,
             file,
+            ahead: _,
             faults,
             reason,
             number,
@@ -232,6 +188,8 @@ impl Desk for OsDesk {
     {
         let OsSink {
             to,
+            kind: _,
+            begun: _,
             file,
             full,
             faults,

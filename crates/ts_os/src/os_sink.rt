@@ -1,16 +1,19 @@
 //! A file or the standard output, as a sink.
 ghost use Rattle.std.specs.Prelude.{◌≡◌, ◌<◌, ◌≤◌, length, take, IfOk, OnErr};
 ghost use Rattle.ts_outside.specs.Sink.{took, write_failed};
+ghost use Rattle.ts_packet.specs.declared.numbers.TheConstants.{PACKET_SIZE};
 ghost use Rattle.ts_os.specs.Untold.{untold_sink};
 
 use crate::calls::write_some;
 use crate::file_id::FileId;
+use crate::file_kind::FileKind;
 use crate::open_files::OpenFiles;
 use crate::reason::Reason;
-use std::fs::{File, OpenOptions};
+use std::fs::{File, OpenOptions, metadata};
 use std::io::Stdout;
 use std::marker::Model;
 use ts_outside::{Failed, Sink, one_more};
+use ts_packet::PACKET_SIZE;
 
 /// Where a sink writes.
 #[derive(Drop)]
@@ -31,10 +34,14 @@ impl Made {
 
 /// A file or the standard output. Contracts see no content of it, only the count of its faults.
 ///
-/// Each call gives the system one piece. A call that takes nothing of a piece is a fault. A regular file keeps what it had
-/// until the first write, or until it is closed.
+/// Each call gives the system one piece, or of a longer one as many packets as its kind of file is given at once. A call that
+/// takes nothing of a piece is a fault. A regular file keeps what it had until the first write, or until it is closed.
 pub struct OsSink {
     pub(crate) to: Made,
+    pub(crate) kind: FileKind,
+
+    /// How many bytes were taken of the packet of which some were and some were not; 0 between packets.
+    pub(crate) begun: usize,
 
     /// The regular file that this is.
     pub(crate) file: Option<FileId>,
@@ -45,6 +52,7 @@ pub struct OsSink {
 
     /// Why the last write failed.
     pub(crate) reason: Option<Reason>,
+    ghost in_packet: { begun < PACKET_SIZE },
 }
 
 impl Model for OsSink {
@@ -66,15 +74,19 @@ impl OsSink {
         if named.is_empty() {
             return Ok(OsSink {
                 to: Made::Stream(rt.stdout()),
+                kind: FileKind::of(&metadata(rt, "/dev/stdout")),
+                begun: 0,
                 file: None,
                 full: false,
                 faults: 0,
                 reason: None,
             });
         }
-        let (made, file) = open_file(rt, named, files)?;
+        let (made, kind, file) = open_file(rt, named, files)?;
         Ok(OsSink {
             to: Made::File(made),
+            kind,
+            begun: 0,
             file,
             full: file.is_some(),
             faults: 0,
@@ -92,8 +104,10 @@ impl OsSink {
         !self.full
     }
 
-    /// Gives the system one piece. Returns the reason if it took nothing, or if the file could not be emptied.
+    /// Gives the system a piece, or the packets of it that it is given at once. Returns the reason if it took nothing, or if the
+    /// file could not be emptied.
     fn give(&mut self, piece: &[u8]) -> Result<usize, Reason>
+        requires { 0 < length piece.now }
         ensures some { IfOk result (λ n. 0 < n) }
         ensures within { IfOk result (λ n. n ≤ length piece.now) }
         ensures same { self.new ≡ self.old }
@@ -101,32 +115,36 @@ impl OsSink {
         if !self.empty() {
             return Err(Reason::Other);
         }
-        match &mut self.to {
-            Made::File(file) => write_some(file, piece),
-            Made::Stream(stream) => write_some(stream, piece),
-        }
+        let given = &piece[..self.kind.bytes_at_once(self.begun, piece.len())];
+        let count = match &mut self.to {
+            Made::File(file) => write_some(file, given)?,
+            Made::Stream(stream) => write_some(stream, given)?,
+        };
+        self.begun = (self.begun + count) % PACKET_SIZE;
+        Ok(count)
     }
 }
 
-// The file of a name, made if it is absent, and which regular file it is.
+// The file of a name, made if it is absent, of what kind it is, and which regular file.
 fn open_file(
     rt: &HostRuntime,
     named: &str,
     files: &OpenFiles,
-) -> Result<(File, Option<FileId>), Reason> {
+) -> Result<(File, FileKind, Option<FileId>), Reason> {
     let file = OpenOptions::new()
         .write(true)
         .create(true)
         .open(rt, named)
         .map_err(|e| Reason::of(e.kind()))?;
-    let told = file.metadata().map_err(|e| Reason::of(e.kind()))?;
-    let id = FileId::of(&told);
+    let told = file.metadata();
+    let kind = FileKind::of(&told);
+    let id = FileId::of(&told.map_err(|e| Reason::of(e.kind()))?);
     if let Some(id) = id {
         if !files.may_write(id) {
             return Err(Reason::InUse);
         }
     }
-    Ok((file, id))
+    Ok((file, kind, id))
 }
 
 impl Sink for OsSink {

@@ -3,30 +3,30 @@ ghost use Rattle.std.specs.Prelude.{◌≡◌, ◌<◌, ◌≤◌, [], length, t
 ghost use Rattle.ts_outside.specs.Source.{read_failed, unread};
 ghost use Rattle.ts_os.specs.Untold.{untold_source};
 
-use crate::calls::read_some;
 use crate::file_id::FileId;
+use crate::file_kind::FileKind;
+use crate::opened::Opened;
+use crate::read_ahead::ReadAhead;
 use crate::reason::Reason;
+use std::alloc::{AllocError, Global};
 use std::fs::{File, metadata};
-use std::io::Stdin;
 use std::marker::Model;
 use ts_outside::{Failed, Source, one_more};
 
 /// How many bytes a source keeps of those that came first: five packets in each form of a file.
 const HEAD_SIZE: usize = 1024;
 
-/// What a source reads.
-#[derive(Drop)]
-pub(crate) enum Opened {
-    File(File),
-    Stream(Stdin),
-}
-
 /// A file or the standard input. Contracts see no content of it, only the count of its faults.
 ///
-/// Each call asks the system once, for as many bytes as there is room for. A directory opens, and fails at its first read.
+/// Each call asks the system once, for as many bytes as there is room for; or gives bytes that the system gave before, once
+/// there is room to read ahead. A directory opens, and fails at its first read.
 pub struct OsSource {
     pub(crate) from: Opened,
+    pub(crate) kind: FileKind,
     pub(crate) file: Option<FileId>,
+
+    /// What was read and not given yet, of what is no regular file.
+    pub(crate) ahead: Option<ReadAhead>,
     pub(crate) faults: u64,
 
     /// Why the last read failed.
@@ -65,10 +65,11 @@ impl OsSource {
             let told = file.metadata();
             (Opened::File(file), told)
         };
-        let file = told.ok().and_then(|it| FileId::of(&it));
         Ok(OsSource {
             from,
-            file,
+            kind: FileKind::of(&told),
+            file: told.ok().and_then(|it| FileId::of(&it)),
+            ahead: None,
             faults: 0,
             reason: None,
             number,
@@ -76,11 +77,24 @@ impl OsSource {
         })
     }
 
+    /// Takes room to read ahead, unless it is a regular file. Without it each read asks for what there is room for. `Err` means
+    /// out of memory, and changes nothing.
+    pub(crate) fn take_room(&mut self, alloc: Global) -> Result<(), AllocError>
+        ensures { self.new ≡ self.old }
+    {
+        if self.kind != FileKind::Regular {
+            self.ahead = Some(ReadAhead::new(alloc)?);
+        }
+        Ok(())
+    }
+
     /// Ends the source, and returns why its last read failed, if one did.
     pub(crate) fn into_reason(self) -> Option<Reason> {
         let OsSource {
             from: _,
+            kind: _,
             file: _,
+            ahead: _,
             faults: _,
             reason,
             number: _,
@@ -111,9 +125,9 @@ impl Source for OsSource {
         ensures end { IfOk result (λ n. n ≡ 0 → IfSome (untold_source self.old).left (λ l. l ≡ [])) }
         ensures failed { OnErr result (untold_source self.new ≡ read_failed (untold_source self.old)) }
     {
-        let moved = match &mut self.from {
-            Opened::File(file) => read_some(file, into),
-            Opened::Stream(stream) => read_some(stream, into),
+        let moved = match &mut self.ahead {
+            Some(ahead) => ahead.read(&mut self.from, into),
+            None => self.from.read(into),
         };
         match moved {
             Ok(count) => {

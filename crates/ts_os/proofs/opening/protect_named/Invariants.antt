@@ -1,5 +1,5 @@
 use Rattle.std.proofs.Common.{◌≡◌, length}
-use Rattle.ts_os.proofs.os_desk.protect_named.Given as goal
+use Rattle.ts_os.proofs.opening.protect_named.Given as goal
 
 -- one answer for each name so far
 abbrev pub invariant-loop-name : goal.invariant-loop-name
