@@ -21,7 +21,7 @@ cells = Dropped ∷ Live plain 0 ∷ Live first 0 ∷ Live plain 0 ∷ Live firs
 
 -- `until --packets 3`: the third packet is the fourth cell, and the last one
 abbrev by_packets : UntilConf
-by_packets = record { packets = Some 3; bytes = None; unit_start_count = None; exclude_last = false; joint_termination = false }
+by_packets = record { packets = Some 3; bytes = None; unit_start_count = None; seconds = None; pcr_pid = None; exclude_last = false; joint_termination = false }
 
 third-last : apply (until_rule by_packets) cells ≡ record { cells = Dropped ∷ Live plain 0 ∷ Live first 0 ∷ Live plain 0 ∷ []; ended = Some last_passed }
 unfolding field bit_of
@@ -39,7 +39,7 @@ never-reached = refl
 
 -- `until --bytes 376` is two packets, and 377 bytes are three
 abbrev by_bytes : ℕ → UntilConf
-by_bytes n = record { packets = None; bytes = Some n; unit_start_count = None; exclude_last = false; joint_termination = false }
+by_bytes n = record { packets = None; bytes = Some n; unit_start_count = None; seconds = None; pcr_pid = None; exclude_last = false; joint_termination = false }
 
 two-packets : (apply (until_rule (by_bytes 376)) cells).cells ≡ Dropped ∷ Live plain 0 ∷ Live first 0 ∷ []
 unfolding field bit_of
@@ -51,7 +51,7 @@ one-byte-more = refl
 
 -- `until --unit-start-count 2`: the fourth packet is the second one with the indicator
 abbrev by_starts : UntilConf
-by_starts = record { packets = None; bytes = None; unit_start_count = Some 2; exclude_last = false; joint_termination = false }
+by_starts = record { packets = None; bytes = None; unit_start_count = Some 2; seconds = None; pcr_pid = None; exclude_last = false; joint_termination = false }
 
 second-start : apply (until_rule by_starts) cells ≡ record { cells = Dropped ∷ Live plain 0 ∷ Live first 0 ∷ Live plain 0 ∷ Live first 0 ∷ []; ended = Some last_passed }
 unfolding field bit_of

@@ -7,6 +7,7 @@ use Rattle.ts_packet.specs.Header.{unit_start_of}
 use Rattle.chain_model.specs.PluginRule.{PluginRule, RuleOutcome, passes, lasts, stops}
 use Rattle.plugin_trait.specs.LiveCount.{live_count}
 use Rattle.plugin_trait.specs.SilentRule.{silent_rule}
+use Rattle.plug_clock.specs.StreamClock.{has_seconds, step_time}
 use Rattle.plug_end.specs.declared.until_conf.UntilConf.{UntilConf}
 
 -- how many of the packets have their unit start indicator
@@ -18,10 +19,23 @@ abbrev pub reaches : ℕ → Option ℕ → Bool
 reaches count None = false
 reaches count (Some least) = nat_le least count
 
--- the packets, their bytes or their unit starts are as many as is given
+-- a number of packets, of their bytes or of their unit starts that is given is reached by so many packets with so many starts
+abbrev pub is_counted : UntilConf → ℕ → ℕ → Bool
+is_counted conf met starts =
+    reaches met conf.packets || (reaches (PACKET_SIZE * met) conf.bytes || reaches starts conf.unit_start_count)
+
+-- there is a packet, and so many seconds as are given have passed
+abbrev pub is_time : Option ℕ → ℕ → ℕ → Bool
+is_time None met time = false
+is_time (Some seconds) met time = nat_le 1 met && has_seconds seconds time
+
+-- seconds are given, there is a packet among the cells, and so many seconds have passed by the stream's clock
+abbrev pub is_time_of : UntilConf → List Cell → Bool
+is_time_of conf cells = is_time conf.seconds (live_count cells) (step_time conf.pcr_pid cells)
+
+-- the packets, their bytes, their unit starts or the seconds of the stream's clock are as many as is given
 abbrev pub is_reached : UntilConf → List Cell → Bool
-is_reached conf cells = reaches (live_count cells) conf.packets
-    || (reaches (PACKET_SIZE * live_count cells) conf.bytes || reaches (unit_starts cells) conf.unit_start_count)
+is_reached conf cells = is_counted conf (live_count cells) (unit_starts cells) || is_time_of conf cells
 
 -- what becomes of a packet with which the number is reached: it passes like any other where the end is
 -- a joint one, and else it is the last, or is left out

@@ -4,7 +4,8 @@ use Rattle.std.specs.Prelude.{ℕ, ◌||◌, List, [], ◌∷◌, Option, codes}
 use Rattle.clap.specs.Walk.{Row}
 use Rattle.plug_end.specs.UntilSettings.{until_together}
 use Rattle.plug_end.specs.declared.until_conf.UntilConf.{UntilConf}
-use Rattle.plugin_options.specs.declared.limits.TheConstants.{MOST_NUMBER}
+use Rattle.plug_end.specs.declared.limits.TheConstants.{MOST_SECONDS}
+use Rattle.plugin_options.specs.declared.limits.TheConstants.{LAST_PID, MOST_NUMBER}
 use Rattle.plugin_options.specs.Forms.{Form, number}
 use Rattle.plugin_options.specs.Options.{OptionRow, flag, has_flag, has_value, read_value, value}
 use Rattle.plugin_options.specs.OptionTable.{OptionTable}
@@ -19,6 +20,8 @@ abbrev pub until_rows : List OptionRow
 until_rows = record { name = codes "packets"; kind = value until_form }
     ∷ record { name = codes "bytes"; kind = value until_form }
     ∷ record { name = codes "unit-start-count"; kind = value until_form }
+    ∷ record { name = codes "seconds"; kind = value (number 0 MOST_SECONDS) }
+    ∷ record { name = codes "pcr-pid"; kind = value (number 0 LAST_PID) }
     ∷ record { name = codes "exclude-last"; kind = flag }
     ∷ record { name = codes "joint-termination"; kind = flag }
     ∷ []
@@ -33,16 +36,18 @@ until_settings found = record {
   packets = until_number (codes "packets") found;
   bytes = until_number (codes "bytes") found;
   unit_start_count = until_number (codes "unit-start-count") found;
+  seconds = read_value (number_within 0 MOST_SECONDS) (codes "seconds") found;
+  pcr_pid = read_value (number_within 0 LAST_PID) (codes "pcr-pid") found;
   exclude_last = has_flag (codes "exclude-last") found;
   joint_termination = has_flag (codes "joint-termination") found;
 }
 
--- one of the three counts has to be given
+-- one of the counts, or the seconds, has to be given
 abbrev pub until : OptionTable UntilConf
 until = record {
   rows = until_rows;
   has_needed = λ found. has_value (codes "packets") found
-      || (has_value (codes "bytes") found || has_value (codes "unit-start-count") found);
+      || (has_value (codes "bytes") found || (has_value (codes "unit-start-count") found || has_value (codes "seconds") found));
   settings = until_settings;
   go_together = λ found. until_together (until_settings found);
 }

@@ -7,8 +7,8 @@ use Rattle.ts_packet.specs.declared.cell.Cell.{Cell}
 use Rattle.ts_packet.specs.Cells.{Live, Dropped, live_packets}
 use Rattle.ts_packet.specs.Adaptation.{adaptation_length_of, discontinuity_of}
 use Rattle.ts_packet.specs.Pcr.{clock_bytes, clock_of, has_pcr_of}
-use Rattle.plug_pcr.specs.ClockJitter.{units_after}
-use Rattle.plug_pcr.specs.declared.limits.TheConstants.{CLOCK_PERIOD}
+use Rattle.plug_clock.specs.ClockUnits.{units_after}
+use Rattle.plug_clock.specs.declared.limits.TheConstants.{CLOCK_PERIOD}
 use Rattle.plug_info_texts.specs.InfoTexts.{portion_text}
 use Rattle.plug_info_texts.specs.Rounding.{rounded}
 use Rattle.plug_info_texts.specs.declared.scene.Scene.{Scene}

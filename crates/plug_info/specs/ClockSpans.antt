@@ -5,7 +5,7 @@ use Rattle.ts_packet.specs.declared.cell.Cell.{Cell}
 use Rattle.ts_packet.specs.declared.numbers.TheConstants.{PID_COUNT}
 use Rattle.ts_packet.specs.MetRows.{Met}
 use Rattle.ts_packet.specs.Pcr.{clock_of}
-use Rattle.plug_pcr.specs.ClockJitter.{units_after}
+use Rattle.plug_clock.specs.ClockUnits.{units_after}
 use Rattle.plug_info.specs.PacketExtent.{last_row}
 use Rattle.plug_info.specs.PcrRate.{breaks_in, has_part, positions_in, sound_clocks_on, units_in, ways_of}
 use Rattle.plug_info.specs.declared.clock_span.ClockSpan.{ClockSpan}

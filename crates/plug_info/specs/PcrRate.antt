@@ -12,8 +12,9 @@ use Rattle.ts_packet.specs.MetRows.{Met, met_rows}
 use Rattle.ts_packet.specs.Pcr.{clock_of}
 use Rattle.plugin_notes.specs.PidPackets.{numbers_below}
 use Rattle.plug_pcr.specs.ClockFaults.{has_clock_on}
-use Rattle.plug_pcr.specs.ClockJitter.{units_after}
-use Rattle.plug_pcr.specs.declared.limits.TheConstants.{MOST_BITRATE, PACKET_UNITS}
+use Rattle.plug_clock.specs.ClockUnits.{units_after}
+use Rattle.plug_clock.specs.declared.limits.TheConstants.{PACKET_UNITS}
+use Rattle.plug_pcr.specs.declared.limits.TheConstants.{MOST_BITRATE}
 use Rattle.plug_info_texts.specs.Rounding.{rounded}
 use Rattle.plug_info.specs.declared.clock_span.TheConstants.{LONGEST_SPAN}
 

@@ -1,11 +1,11 @@
 //! The clock of a PID, from its first PCR to its last.
 ghost use Rattle.std.specs.Prelude.{◌≡◌, Some, None, if◌then◌else◌};
-ghost use Rattle.plug_pcr.specs.ClockJitter.{units_after};
 ghost use Rattle.plug_info.specs.PcrRate.{has_part, rate_over};
 ghost use Rattle.plug_info.specs.ClockSpans.{fits, span_with, way_parts};
 
+use plug_clock::{PACKET_UNITS, units_after};
 use plug_info_texts::rounded;
-use plug_pcr::{CLOCK_PERIOD, MOST_BITRATE, PACKET_UNITS};
+use plug_pcr::MOST_BITRATE;
 
 /// By how much a PCR may be ahead of the one before it and still have a part in the bit rate, in units of the 27 MHz
 /// clock: a second. Streams that keep to ISO/IEC 13818-1, 2.7.2, have ten PCRs in it.
@@ -72,7 +72,7 @@ fn way_to(last: Option<MetClock>, met: MetClock, breaks: bool) -> (u64, u64, u64
     let Some(last) = last else {
         return (0, 0, 0);
     };
-    let units = units_between(last.clock, met.clock);
+    let units = units_after(last.clock, met.clock);
     if has_part(breaks, units) {
         (met.at.saturating_sub(last.at), units, 0)
     } else {
@@ -85,12 +85,4 @@ fn has_part(breaks: bool, units: u64) -> bool
     ensures { result ≡ has_part breaks units }
 {
     !breaks && 0 < units && units <= LONGEST_SPAN
-}
-
-// The units of the clock from one PCR to another, modulo its period.
-fn units_between(before: u64, clock: u64) -> u64
-    ensures { result ≡ units_after before clock }
-{
-    let period = u128::from(CLOCK_PERIOD);
-    ((u128::from(clock) + (period - u128::from(before) % period)) % period) as u64
 }

@@ -84,7 +84,7 @@ none-skipped = refl
 
 -- `slice --drop 1 --pass 3 --stop 4`: packets are numbered from 0
 abbrev slices : SliceConf
-slices = record { drop = Some 1; null = None; pass = Some 3; stop = Some 4 }
+slices = record { drop = Some 1; null = None; pass = Some 3; stop = Some 4; milliseconds = false; pcr_pid = None }
 
 sliced : apply (slice_rule slices) (Live on_256 0 ∷ Live on_257 0 ∷ Live on_258 0 ∷ Live on_257 0 ∷ Live on_256 0 ∷ Live on_257 0 ∷ [])
     ≡ record { cells = Live on_256 0 ∷ Dropped ∷ Dropped ∷ Live on_257 0 ∷ []; ended = Some stopped }
@@ -122,7 +122,7 @@ unfolding field bit_of adaptation_length_of payload_start_of repeated
 no-payload = refl
 
 -- two options of `slice` with one number
-same-numbers : slices_differ (record { drop = Some 1; null = None; pass = Some 1; stop = None }) ≡ false
+same-numbers : slices_differ (record { drop = Some 1; null = None; pass = Some 1; stop = None; milliseconds = false; pcr_pid = None }) ≡ false
 same-numbers = refl
 
 -- `skip` takes 2^40 packets

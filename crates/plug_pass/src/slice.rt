@@ -5,20 +5,25 @@ ghost use Rattle.plug_pass.specs.SliceRule.{slice_rule, is_between};
 ghost use Rattle.plug_pass.specs.SliceSettings.{IsValidSlice};
 
 use crate::slice_conf::SliceConf;
+use plug_clock::StreamClock;
 use plugin_trait::{Outcome, Plugin, Silent, Steps};
 use std::alloc::{AllocError, Global};
 use ts_packet::{Labels, Packet};
 
-/// Drops, passes or overwrites packets by their index, or stops: the option with the greatest number that is at most
-/// the number of packets met before decides.
+/// Drops, passes or overwrites packets by their index or by time, or stops: the option with the greatest number that is at
+/// most the packet's decides. Its number is that of the packets met before, or the milliseconds of the clock with it.
 #[derive(Drop)]
 pub struct SliceSteps {
     drop: Option<u64>,
     null: Option<u64>,
     pass: Option<u64>,
     stop: Option<u64>,
+    milliseconds: bool,
+    pcr_pid: Option<u64>,
     /// How many packets were met.
     met: u64,
+    /// The clock of the stream, which goes only where the numbers are milliseconds.
+    clock: StreamClock,
     buffer: usize,
 }
 
@@ -37,35 +42,63 @@ pub fn new_slice(_alloc: Global, conf: &SliceConf, buffer: usize) -> Result<Slic
         null: conf.null,
         pass: conf.pass,
         stop: conf.stop,
+        milliseconds: conf.milliseconds,
+        pcr_pid: conf.pcr_pid,
         met: 0,
+        clock: StreamClock::new(conf.pcr_pid),
         buffer,
     };
     Ok(Silent { steps })
 }
 
 impl SliceSteps {
-    ghost use Rattle.std.specs.Prelude.{◌≡◌};
-    ghost use Rattle.plug_pass.specs.SliceRule.{decides, is_overtaken};
-    ghost use Rattle.plug_pass.specs.SliceState.{conf_of};
+    ghost use Rattle.std.specs.Prelude.{◌≡◌, ◌∷◌, ◌++◌, [], ℕ, List, length};
+    ghost use Rattle.ts_packet.specs.declared.cell.Cell.{Cell as GivenCell};
+    ghost use Rattle.ts_packet.specs.Cells.{Live};
+    ghost use Rattle.plug_pass.specs.SliceRule.{decides, is_overtaken, number_of};
+    ghost use Rattle.plug_pass.specs.SliceState.{IsClock, Sliced, conf_of};
 
-    // Whether the option of this number decides about the next packet.
-    fn decides(&self, from: Option<u64>) -> bool
-        ensures { result ≡ decides (conf_of self.now) self.now.met from }
+    // The number of the packet at a position.
+    fn number(&self, at: u64, packet: &Packet) -> u64
+        ensures { (history : List GivenCell) (labels : ℕ) → Sliced self.now history → length history ≡ at
+            → result ≡ number_of (conf_of self.now) history packet.now labels }
+    {
+        if self.milliseconds {
+            self.clock.after(at, packet).milliseconds()
+        } else {
+            self.met
+        }
+    }
+
+    // Where the numbers are milliseconds, the clock goes on with a packet at a position.
+    fn tick(&mut self, at: u64, packet: &Packet)
+        ensures follows { (history : List GivenCell) (labels : ℕ) → IsClock (conf_of self.old) self.old.clock history
+            → length history ≡ at → IsClock (conf_of self.old) self.new.clock (history ++ Live packet.now labels ∷ []) }
+        ensures rest { self.new ≡ record self.old { clock = self.new.clock } }
+    {
+        if self.milliseconds {
+            self.clock = self.clock.after(at, packet);
+        }
+    }
+
+    // Whether the option of this number decides about a packet with a number.
+    fn decides(&self, number: u64, from: Option<u64>) -> bool
+        ensures { result ≡ decides (conf_of self.now) number from }
     {
         match from {
-            Some(from) => from <= self.met && !self.is_overtaken(from),
+            Some(from) => from <= number && !self.is_overtaken(number, from),
             None => false,
         }
     }
 
-    // Whether an option has a greater number that is at most the next packet's.
-    fn is_overtaken(&self, from: u64) -> bool
-        ensures { result ≡ is_overtaken (conf_of self.now) self.now.met from }
+    // Whether an option has a greater number that is at most the packet's.
+    fn is_overtaken(&self, number: u64, from: u64) -> bool
+        ensures { result ≡ is_overtaken (conf_of self.now) number from }
     {
-        is_between(from, self.met, self.drop)
-            || is_between(from, self.met, self.null)
-            || is_between(from, self.met, self.pass)
-            || is_between(from, self.met, self.stop)
+        is_between(from, number, self.drop)
+            || is_between(from, number, self.null)
+            || is_between(from, number, self.pass)
+            || is_between(from, number, self.stop)
     }
 }
 
@@ -80,33 +113,36 @@ fn is_between(from: u64, index: u64, other: Option<u64>) -> bool
 }
 
 impl Steps for SliceSteps {
-    ghost use Rattle.std.specs.Prelude.{◌≡◌, ◌≤◌, length, Some, refl};
-    ghost use Rattle.plugin_trait.specs.LiveCount.{live_count};
+    ghost use Rattle.std.specs.Prelude.{Some, refl};
     ghost use Rattle.plug_pass.specs.SliceRule.{slice_rule};
-    ghost use Rattle.plug_pass.specs.SliceState.{conf_of};
+    ghost use Rattle.plug_pass.specs.SliceState.{Sliced, conf_of};
 
     ghost rule = { λ s. slice_rule (conf_of s) };
 
-    ghost stands_for = { λ s history. (s.met ≡ live_count history) × (s.met ≤ length history) };
+    ghost stands_for = { λ s history. Sliced s history };
 
     ghost preallocated = { λ s. Some s.buffer };
 
     // Inlined: otherwise the loop of `steps` has a call for each cell.
     #[inline(always)]
-    fn step(&mut self, _at: u64, packet: &mut Packet, _labels: &mut Labels) -> Outcome {
-        if self.decides(self.drop) {
+    fn step(&mut self, at: u64, packet: &mut Packet, _labels: &mut Labels) -> Outcome {
+        let number = self.number(at, packet);
+        if self.decides(number, self.drop) {
             self.met += 1;
+            self.tick(at, packet);
             return Outcome::Drop;
         }
-        if self.decides(self.null) {
+        if self.decides(number, self.null) {
             self.met += 1;
+            self.tick(at, packet);
             *packet = Packet::null();
             return Outcome::Pass;
         }
-        if self.decides(self.stop) {
+        if self.decides(number, self.stop) {
             return Outcome::Stop;
         }
         self.met += 1;
+        self.tick(at, packet);
         Outcome::Pass
     }
 

@@ -1,12 +1,12 @@
 //! The settings of `slice`.
 
 ghost use Rattle.std.specs.Prelude.{◌≡◌};
-ghost use Rattle.plug_pass.specs.SliceSettings.{same_numbers, slices_differ};
+ghost use Rattle.plug_pass.specs.SliceSettings.{same_numbers, slice_together, slices_differ};
 
-/// Settings of `slice`, each option of which names the packet from which on it holds.
+/// Settings of `slice`, four options of which name the packet from which on they hold.
 ///
-/// Packets are counted from 0. At least one option is given, and no two have the same number. Each
-/// number is at most 2^60.
+/// Packets are counted from 0, or have the milliseconds of the stream's clock as their numbers. At least one of the four is
+/// given, and no two have the same number. Each number is at most 2^60. A PID is given only with milliseconds.
 #[derive(Drop)]
 pub struct SliceConf {
     /// From here on packets are dropped.
@@ -17,11 +17,22 @@ pub struct SliceConf {
     pub pass: Option<u64>,
     /// The chain ends before this packet.
     pub stop: Option<u64>,
+    /// The numbers are milliseconds of the stream's clock.
+    pub milliseconds: bool,
+    /// The PID whose PCRs tell the time, 0 to 8191; without it the clock finds one.
+    pub pcr_pid: Option<u64>,
 }
 
 impl SliceConf {
-    /// Whether no two options have the same number.
-    pub fn has_distinct_numbers(&self) -> bool
+    /// Whether no two options have the same number, and a PID is given only with milliseconds.
+    pub fn goes_together(&self) -> bool
+        ensures { result ≡ slice_together self.now }
+    {
+        self.has_distinct_numbers() && (self.milliseconds || self.pcr_pid.is_none())
+    }
+
+    // Whether no two options have the same number.
+    fn has_distinct_numbers(&self) -> bool
         ensures { result ≡ slices_differ self.now }
     {
         !are_same(self.drop, self.null)

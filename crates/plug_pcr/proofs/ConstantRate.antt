@@ -2,8 +2,8 @@
 use Rattle.std.proofs.Common.{◌≡◌, ℕ, ◌+◌, ◌-◌, ◌*◌, ◌/◌, ◌%◌, ◌<◌, ◌≤◌, ap, arith}
 use Rattle.std.proofs.Math.Nat.{add-mul, div-mul-le_self, lt-div-mul-add}
 use Rattle.std.proofs.lemmas.Nat.{div_below, le-div}
-use Rattle.plug_pcr.specs.ClockJitter.{clock_at, units_taken}
-use Rattle.plug_pcr.specs.declared.limits.TheConstants.{CLOCK_PERIOD, PACKET_UNITS}
+use Rattle.plug_clock.specs.ClockUnits.{clock_at, units_taken}
+use Rattle.plug_clock.specs.declared.limits.TheConstants.{CLOCK_PERIOD, PACKET_UNITS}
 
 -- the sum of two quotients is at most the quotient of the sum
 least_quotient : (a b n : ℕ) → 0 < n → a / n + b / n ≤ (a + b) / n

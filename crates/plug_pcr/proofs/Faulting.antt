@@ -15,7 +15,7 @@ use Rattle.plug_pcr.specs.LastClocks.{fault_after, kept_of, kept_on}
 use Rattle.plug_pcr.specs.PcrverifyRule.{clocked}
 use Rattle.plug_pcr.specs.declared.clock_fault.ClockFault.{ClockFault}
 use Rattle.plug_pcr.specs.declared.clock_note.ClockNote.{ClockNote}
-use Rattle.plug_pcr.specs.declared.last_clock.LastClock.{LastClock}
+use Rattle.plug_clock.specs.declared.last_clock.LastClock.{LastClock}
 use Rattle.plug_pcr.specs.declared.pcrverify_conf.PcrverifyConf.{PcrverifyConf}
 
 -- a packet of which a PCR was read

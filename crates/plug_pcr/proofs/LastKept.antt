@@ -14,7 +14,7 @@ use Rattle.ts_packet.proofs.RowLemmas.{met-more}
 use Rattle.plugin_options.specs.Selection.{is_selected}
 use Rattle.plug_pcr.specs.ClockFaults.{clocks_on, has_clock_on, is_clocked}
 use Rattle.plug_pcr.specs.LastClocks.{IsEarlier, Remembers, kept_of, kept_on}
-use Rattle.plug_pcr.specs.declared.last_clock.LastClock.{LastClock}
+use Rattle.plug_clock.specs.declared.last_clock.LastClock.{LastClock}
 use Rattle.plug_pcr.specs.declared.last_clocks.LastClocks.{LastClocks}
 use Rattle.plug_pcr.specs.declared.pcrverify_conf.PcrverifyConf.{PcrverifyConf}
 

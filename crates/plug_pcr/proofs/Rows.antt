@@ -8,9 +8,11 @@ use Rattle.ts_packet.specs.Adaptation.{adaptation_length_of, discontinuity_of}
 use Rattle.ts_packet.specs.Pcr.{clock_bytes, clock_of, has_pcr_of}
 use Rattle.chain_model.specs.Reports.{said_of}
 use Rattle.plugin_trait.specs.PlacedLines.{placed_of}
-use Rattle.plug_pcr.specs.ClockJitter.{jitter_of, units_taken}
+use Rattle.plug_clock.specs.ClockUnits.{units_taken}
+use Rattle.plug_pcr.specs.ClockJitter.{jitter_of}
 use Rattle.plug_pcr.specs.PcrverifyRule.{pcrverify_rule}
-use Rattle.plug_pcr.specs.declared.limits.TheConstants.{CLOCK_PERIOD, DEFAULT_JITTER, MOST_BITRATE, MOST_JITTER, PACKET_UNITS}
+use Rattle.plug_clock.specs.declared.limits.TheConstants.{CLOCK_PERIOD, PACKET_UNITS}
+use Rattle.plug_pcr.specs.declared.limits.TheConstants.{DEFAULT_JITTER, MOST_BITRATE, MOST_JITTER}
 use Rattle.plug_pcr.specs.declared.pcrverify_conf.PcrverifyConf.{PcrverifyConf}
 
 -- a packet on PID 256 whose adaptation field has these flags and this PCR

@@ -10,7 +10,7 @@ use Rattle.plugin_options.specs.Selection.{is_selected}
 use Rattle.plug_pcr.specs.ClockFaults.{fault_with, last_clock_on}
 use Rattle.plug_pcr.specs.ClockJitter.{jitter_of}
 use Rattle.plug_pcr.specs.declared.clock_fault.ClockFault.{ClockFault}
-use Rattle.plug_pcr.specs.declared.last_clock.LastClock.{LastClock}
+use Rattle.plug_clock.specs.declared.last_clock.LastClock.{LastClock}
 use Rattle.plug_pcr.specs.declared.last_clocks.LastClocks.{LastClocks}
 use Rattle.plug_pcr.specs.declared.pcrverify_conf.PcrverifyConf.{PcrverifyConf}
 

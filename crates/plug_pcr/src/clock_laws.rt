@@ -1,8 +1,9 @@
 //! Laws of the jitter. They run nothing.
 
 ghost use Rattle.std.specs.Prelude.{◌≡◌, ◌≤◌, ◌+◌, ◌%◌, ◌⊎◌, ℕ};
-ghost use Rattle.plug_pcr.specs.ClockJitter.{clock_at, jitter_of, units_taken};
-ghost use Rattle.plug_pcr.specs.declared.limits.TheConstants.{CLOCK_PERIOD};
+ghost use Rattle.plug_clock.specs.ClockUnits.{clock_at, units_taken};
+ghost use Rattle.plug_pcr.specs.ClockJitter.{jitter_of};
+ghost use Rattle.plug_clock.specs.declared.limits.TheConstants.{CLOCK_PERIOD};
 
 /// A law; it runs nothing. The jitter is the least number of units by which the PCR or the expected one has to be
 /// increased for both to be the same value of the clock, which wraps at its period.

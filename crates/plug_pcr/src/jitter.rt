@@ -1,9 +1,9 @@
 //! How far a PCR is from the one expected at the bit rate.
 ghost use Rattle.std.specs.Prelude.{◌≡◌, ◌<◌, ◌≤◌};
 ghost use Rattle.plug_pcr.specs.ClockJitter.{jitter_of};
-ghost use Rattle.plug_pcr.specs.declared.limits.TheConstants.{CLOCK_PERIOD as PERIOD};
+ghost use Rattle.plug_clock.specs.declared.limits.TheConstants.{CLOCK_PERIOD as PERIOD};
 
-use crate::limits::{CLOCK_PERIOD, PACKET_UNITS};
+use plug_clock::{CLOCK_PERIOD, PACKET_UNITS};
 
 /// The jitter of the PCR `clock`, `packets` packets after the PCR `before`, in units of the 27 MHz clock.
 pub fn jitter(bitrate: u64, packets: u64, before: u64, clock: u64) -> u64

@@ -1,19 +1,11 @@
-//! The last PCR on a PID, and the fault of the next one.
+//! The fault of a PCR after the last one on its PID.
 ghost use Rattle.std.specs.Prelude.{◌≡◌, ◌≤◌, IfSome, option_to_list};
 ghost use Rattle.plug_pcr.specs.LastClocks.{fault_after};
 
 use crate::clock_fault::ClockFault;
 use crate::jitter::jitter;
+use plug_clock::LastClock;
 use ts_packet::Packet;
-
-/// The last PCR on a PID.
-#[derive(Clone, Copy, PartialEq, Eq)]
-pub struct LastClock {
-    /// The position of its packet.
-    pub at: u64,
-    /// Its value, in units of the 27 MHz clock.
-    pub clock: u64,
-}
 
 /// The fault of the packet at a position with this PCR, if it is one, given the last PCR on its PID.
 #[inline]

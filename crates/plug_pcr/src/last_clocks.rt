@@ -1,6 +1,6 @@
 //! The last PCR on each PID.
 
-use crate::last_clock::LastClock;
+use plug_clock::LastClock;
 use std::alloc::{AllocError, Global};
 use ts_packet::{PID_COUNT, PidRow};
 

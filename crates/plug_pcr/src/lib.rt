@@ -18,6 +18,6 @@ mod pcrverify_words;
 pub use clock_fault::ClockFault;
 pub use clock_laws::{constant_rate_is_exact_to_a_unit, jitter_is_the_least_change};
 pub use clock_note::ClockNote;
-pub use limits::{CLOCK_PERIOD, DEFAULT_JITTER, MOST_BITRATE, MOST_JITTER, PACKET_UNITS};
+pub use limits::{DEFAULT_JITTER, MOST_BITRATE, MOST_JITTER};
 pub use pcrverify::Pcrverify;
 pub use pcrverify_conf::PcrverifyConf;

@@ -3,10 +3,11 @@ ghost use Rattle.std.specs.Prelude.{◌≡◌, IfOk, [], None};
 ghost use Rattle.plug_pcr.specs.PcrverifyRule.{pcrverify_rule};
 
 use crate::clock_note::ClockNote;
-use crate::last_clock::{LastClock, fault_behind};
+use crate::last_clock::fault_behind;
 use crate::last_clocks::LastClocks;
 use crate::noted_clocks::NotedClocks;
 use crate::pcrverify_conf::PcrverifyConf;
+use plug_clock::LastClock;
 use plugin_notes::push_line;
 use plugin_options::PidSet;
 use plugin_trait::{Line, LineText, Outcome, Plugin};

@@ -4,7 +4,7 @@ use Rattle.std.specs.Prelude.{◌≡◌, ◌<◌, ◌^◌, ◌/◌, ℕ, List, [
 use Rattle.std.specs.List.{fold, slice_index_or}
 use Rattle.std.specs.Fmt.{decimal}
 use Rattle.ts_packet.specs.declared.numbers.TheConstants.{PID_COUNT}
-use Rattle.plug_pcr.specs.ClockJitter.{units_after}
+use Rattle.plug_clock.specs.ClockUnits.{units_after}
 use Rattle.plug_times.specs.declared.clock_steps.ClockSteps.{ClockSteps}
 use Rattle.plug_times.specs.declared.limits.TheConstants.{DVB_INTERVAL, LONGEST_INTERVAL, MICROSECOND}
 use Rattle.plug_times.specs.declared.stamp.Stamp.{Stamp}

@@ -1,21 +1,17 @@
 -- What packets tell of time: clocks and time stamps. This project's own rule, over ISO/IEC 13818-1, 2.4.3.2, 2.4.3.5 and
 -- 2.4.3.7.
-use Rattle.std.specs.Prelude.{ℕ, List, [], ◌∷◌, length, Bool, false, ◌==◌, ◌&&◌, ◌||◌, not, is_none, Option, None, if◌then◌else◌}
+use Rattle.std.specs.Prelude.{ℕ, List, [], ◌∷◌, length, Bool, false, ◌==◌, ◌&&◌, ◌||◌, not, is_none, if◌then◌else◌}
 use Rattle.ts_packet.specs.declared.cell.Cell.{Cell}
 use Rattle.ts_packet.specs.Header.{error_indicator_of, pid_of, scrambling_of, unit_start_of}
 use Rattle.ts_packet.specs.Adaptation.{discontinuity_of}
 use Rattle.ts_packet.specs.Payload.{payload_of}
-use Rattle.ts_packet.specs.Pcr.{pcr_of}
+use Rattle.plug_clock.specs.StreamClock.{time_in}
 use Rattle.plugin_notes.specs.Notes.{notes_after}
 use Rattle.plugin_options.specs.Selection.{is_selected}
 use Rattle.plug_times.specs.PesTimes.{no_times, times_in}
 use Rattle.plug_times.specs.declared.pes_times.PesTimes.{PesTimes}
 use Rattle.plug_times.specs.declared.stamp.Stamp.{Stamp}
 use Rattle.plug_times.specs.declared.timestamps_conf.TimestampsConf.{TimestampsConf}
-
--- the PCR of a packet, where it came without errors
-abbrev pub clock_on : List ℕ → Option ℕ
-clock_on packet = if error_indicator_of packet then None else pcr_of packet
 
 -- no time stamp can be read in the packet: it has errors, is scrambled, or no PES packet begins in it
 abbrev pub is_closed : List ℕ → Bool
@@ -30,7 +26,7 @@ abbrev pub stamp_at : ℕ → List ℕ → Stamp
 stamp_at at packet = record {
   at = at;
   pid = pid_of packet;
-  clock = clock_on packet;
+  clock = time_in packet;
   jumps = discontinuity_of packet;
   times = times_on packet;
 }

@@ -1,10 +1,10 @@
 //! What is kept of the PCRs of a PID.
 ghost use Rattle.std.specs.Prelude.{◌≡◌, ◌≤◌, option_to_list};
 ghost use Rattle.std.specs.List.{fold};
-ghost use Rattle.plug_pcr.specs.ClockJitter.{units_after};
 ghost use Rattle.plug_times.specs.ClockSteps.{above, greater, step_between};
 
-use crate::limits::{CLOCK_PERIOD, DVB_INTERVAL, LONGEST_INTERVAL};
+use crate::limits::{DVB_INTERVAL, LONGEST_INTERVAL};
+use plug_clock::units_after;
 
 /// How many PCRs a PID had, and the steps between them.
 #[derive(Clone, Copy, PartialEq, Eq)]
@@ -65,13 +65,6 @@ fn step_between(before: Option<u64>, clock: u64, jumps: bool) -> Option<u64>
         return None;
     }
     Some(units_after(before, clock))
-}
-
-// The units of the clock from one value to a later one; the clock wraps at its period.
-fn units_after(before: u64, clock: u64) -> u64
-    ensures { result ≡ units_after before clock }
-{
-    (clock % CLOCK_PERIOD + (CLOCK_PERIOD - before % CLOCK_PERIOD)) % CLOCK_PERIOD
 }
 
 // The greatest of the steps, with one more.

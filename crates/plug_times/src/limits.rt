@@ -8,6 +8,3 @@ pub const DVB_INTERVAL: u64 = 1_080_000;
 
 /// 100 ms, the most that ISO/IEC 13818-1, 2.7.2, allows.
 pub const LONGEST_INTERVAL: u64 = 2_700_000;
-
-/// The period of a PCR: its base has 33 bits and counts 300 units (ISO/IEC 13818-1, 2.4.3.5).
-pub const CLOCK_PERIOD: u64 = 2_576_980_377_600;

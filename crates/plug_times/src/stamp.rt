@@ -1,6 +1,7 @@
 //! What a packet tells of time.
 ghost use Rattle.std.specs.Prelude.{◌≡◌, option_to_list};
-ghost use Rattle.plug_times.specs.Stamps.{clock_on, is_closed, is_empty, stamp_at, times_on, told_at};
+ghost use Rattle.plug_clock.specs.StreamClock.{time_in};
+ghost use Rattle.plug_times.specs.Stamps.{is_closed, is_empty, stamp_at, times_on, told_at};
 
 use crate::pes_times::{PesTimes, times_in};
 use plugin_notes::PacketNote;
@@ -63,7 +64,7 @@ fn stamp_at(at: u64, packet: &Packet) -> Stamp
 // The PCR of a packet that came without errors.
 #[inline]
 fn clock_on(packet: &Packet) -> Option<u64>
-    ensures { result ≡ clock_on packet.now }
+    ensures { result ≡ time_in packet.now }
 {
     if packet.error_indicator() {
         return None;

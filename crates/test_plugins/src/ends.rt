@@ -87,6 +87,8 @@ fn until_ends_the_list(rt: HostRuntime) -> Result<(), Fail> {
             packets,
             bytes,
             unit_start_count,
+            seconds: None,
+            pcr_pid: None,
             exclude_last,
             joint_termination: false,
         };
@@ -112,6 +114,8 @@ fn joint_until_agrees_and_passes_all(rt: HostRuntime) -> Result<(), Fail> {
             packets,
             bytes,
             unit_start_count,
+            seconds: None,
+            pcr_pid: None,
             exclude_last: false,
             joint_termination: true,
         };

@@ -93,6 +93,8 @@ fn slice(alloc: Global) -> Result<Slice, AllocError>
         null: Some(4),
         pass: Some(3),
         stop: Some(6),
+        milliseconds: false,
+        pcr_pid: None,
     };
     new_slice(alloc, &conf, 1)
 }

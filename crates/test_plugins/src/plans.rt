@@ -218,7 +218,7 @@ fn fault_of_plugins(alloc: Global, count: usize) -> Result<Option<WordsFault>, F
     Ok(fault_of(alloc, &words))
 }
 
-static OF_PLUGINS: [(&str, Option<WordsRule>); 35] = [
+static OF_PLUGINS: [(&str, Option<WordsRule>); 45] = [
     ("-P skip", Some(WordsRule::Missing)),
     ("-P skip 1 2", Some(WordsRule::Shape)),
     ("-P skip 1099511627777", Some(WordsRule::Value)),
@@ -227,6 +227,16 @@ static OF_PLUGINS: [(&str, Option<WordsRule>); 35] = [
     ("-P slice --drop 1 --pass x", Some(WordsRule::Value)),
     ("-P slice --drop 1 --pass 0x1", Some(WordsRule::Conflict)),
     ("-P slice --drop 1 --pass 3 --stop 4", None),
+    ("-P slice --milliseconds", Some(WordsRule::Missing)),
+    (
+        "-P slice --drop 1 --milliseconds --pcr-pid 8192",
+        Some(WordsRule::Value),
+    ),
+    (
+        "-P slice --drop 1 --pcr-pid 256",
+        Some(WordsRule::Conflict),
+    ),
+    ("-P slice --drop 1 --milliseconds --pcr-pid 256", None),
     ("-P pattern", Some(WordsRule::Missing)),
     ("-P pattern --pid x", Some(WordsRule::Missing)),
     ("-P pattern ", Some(WordsRule::Value)),
@@ -247,6 +257,18 @@ static OF_PLUGINS: [(&str, Option<WordsRule>); 35] = [
         Some(WordsRule::Shape),
     ),
     ("-P until --unit-start-count 2 --exclude-last", None),
+    ("-P until --pcr-pid 256", Some(WordsRule::Missing)),
+    ("-P until --seconds 4294967297", Some(WordsRule::Value)),
+    (
+        "-P until --seconds 1 --packets 1",
+        Some(WordsRule::Conflict),
+    ),
+    (
+        "-P until --packets 1 --pcr-pid 256",
+        Some(WordsRule::Conflict),
+    ),
+    ("-P until --seconds 4294967296 --pcr-pid 8191", None),
+    ("-P until --seconds 0 --joint-termination", None),
     ("-P count x", Some(WordsRule::Shape)),
     ("-P count --all --total --negate", None),
     ("-P continuity --fix --pid 0-8192", Some(WordsRule::Value)),

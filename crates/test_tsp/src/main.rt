@@ -43,6 +43,7 @@ mod stamp_rows;
 mod stream_rows;
 mod table_rows;
 mod threads;
+mod time_rows;
 mod trial;
 mod trial_desk;
 mod window_rows;
@@ -95,7 +96,7 @@ fn write_tables<R: Threads + Wait + Sync + AllocGlobal>(
 }
 
 /// All tables, in the order in which they are printed.
-fn tables() -> [&'static [Row]; 36] {
+fn tables() -> [&'static [Row]; 38] {
     [
         end_rows::rows(),
         plugin_rows::rows(),
@@ -107,6 +108,7 @@ fn tables() -> [&'static [Row]; 36] {
         window_rows::rows(),
         stream_rows::rows(),
         clock_rows::rows(),
+        time_rows::rows(),
         stamp_rows::rows(),
         info_rows::rows(),
         rate_rows::rows(),
@@ -131,6 +133,7 @@ fn tables() -> [&'static [Row]; 36] {
         window_rows::of_words(),
         stream_rows::of_words(),
         clock_rows::of_words(),
+        time_rows::of_words(),
         stamp_rows::of_words(),
         info_rows::of_words(),
     ]

@@ -1,5 +1,5 @@
 use Rattle.std.proofs.Common.{◌<◌, ◌+◌, arith}
-use Rattle.plug_pcr.specs.ClockJitter.{clock_at}
+use Rattle.plug_clock.specs.ClockUnits.{clock_at}
 use Rattle.plug_pcr.proofs.ConstantRate.{at_most_one, goes_on, one_over, units_over}
 use Rattle.plug_pcr.proofs.clock_laws.constant_rate_is_exact_to_a_unit.Goals as goal
 

@@ -11,6 +11,7 @@ returns-clause-gives c = λ history mark holds le within.
       record {
         packets = holds.packets;
         unit_starts_met = holds.unit_starts_met;
+        clocked = holds.clocked;
         few_packets = holds.few_packets;
         few_starts = holds.few_starts;
         marked = within;
