@@ -43,6 +43,9 @@ PLUGINS = {
 # Files of tables for `inject`.
 TABLES = [programs.TOP / "examples" / name for name in ("pat.json", "cat.json", "sdt.json")]
 
+# What is drawn for the threads of a run.
+THREADS = ["", "", "--threads auto", "--threads 1"]
+
 # What draws the same of each kind of size.
 BUFFERS = ["--buffer-packets 1", "--buffer-packets 2", "--buffer-packets {few}", "--buffer-packets {many}", ""]
 BATCHES = ["--max-flushed-packets 1", "--max-flushed-packets {few}", "--max-input-packets {few}", ""]
@@ -81,3 +84,8 @@ def chain_of(draw, known, tables=None):
 def sizes_of(draw):
     """Sizes of the buffer and of the batches."""
     return filled(draw, draw.choice(BUFFERS)) + " " + filled(draw, draw.choice(BATCHES))
+
+
+def threads_of(draw):
+    """Whether one thread is asked for."""
+    return draw.choice(THREADS)

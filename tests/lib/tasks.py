@@ -48,10 +48,10 @@ def passed(running):
     return 0
 
 
-def counted(program, plugins, processors, wanted, tasks=None):
-    """What is wrong with a chain of so many plugins: once a packet has passed, it has to have as many threads as are wanted,
-    and then to pass all packets and to end well. None where nothing is."""
-    words = [program, *["-P", "skip", "0"] * plugins, "-I", "file", "-O", "file"]
+def counted(program, plugins, processors, wanted, tasks=None, general=()):
+    """What is wrong with a chain of so many plugins, with these general options: once a packet has passed, it has to have as many
+    threads as are wanted, and then to pass all packets and to end well. None where nothing is."""
+    words = [program, *general, *["-P", "skip", "0"] * plugins, "-I", "file", "-O", "file"]
     with subprocess.Popen(words, bufsize=0, stdin=subprocess.PIPE, stdout=subprocess.PIPE, stderr=subprocess.DEVNULL,
                           preexec_fn=held_to(processors, tasks)) as running:
         try:

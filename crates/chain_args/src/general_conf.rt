@@ -1,5 +1,7 @@
 //! The values of the general options of `tsp`.
 
+use crate::stage_threads::StageThreads;
+
 /// The values of the general options, each with its default where it is not given; the three sizes are `None` then.
 #[derive(Drop, Clone, Copy, PartialEq, Eq)]
 pub struct GeneralConf {
@@ -19,4 +21,6 @@ pub struct GeneralConf {
     pub max_input_packets: Option<u64>,
     /// Whether joint termination is ignored: a plugin that uses it does not end the chain.
     pub ignore_joint_termination: bool,
+    /// How many threads serve the stages of the chain; `Auto` where it is not given.
+    pub threads: StageThreads,
 }

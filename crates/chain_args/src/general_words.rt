@@ -9,6 +9,7 @@ ghost use Rattle.plugin_options.specs.Refusal.{Reads, ReadsParsed};
 
 use crate::found_words::found_words;
 use crate::general_conf::GeneralConf;
+use crate::threads_words::read_threads;
 use plugin_options::{
     Beside, Need, OptionRow, OptionText, OptionWord, ParsedOptions, Refusal, SegmentHelp, Sign,
     Takes,
@@ -22,7 +23,7 @@ const MOST_SIZE: u64 = 1_000_000;
 const MOST_BETWEEN: u64 = 1_000;
 
 // The general options by their names.
-static GENERAL: [OptionRow; 7] = [
+static GENERAL: [OptionRow; 8] = [
     OptionRow {
         word: OptionWord::Value("add-start-stuffing", Takes::Number(0, MOST_SIZE)),
         text: OptionText {
@@ -57,7 +58,7 @@ static GENERAL: [OptionRow; 7] = [
         word: OptionWord::Value("buffer-packets", Takes::Number(1, MOST_SIZE)),
         text: OptionText {
             value: "N",
-            meaning: "1 to 1,000,000, default 8,192, on one processor 1,024: the packets of the buffer that all plugins share: so far beyond the end of the run the input may be read",
+            meaning: "1 to 1,000,000, default 8,192, in one thread 1,024: the packets of the buffer that all plugins share: so far beyond the end of the run the input may be read",
             need: Need::Free,
             beside: Beside::Any,
         },
@@ -66,7 +67,7 @@ static GENERAL: [OptionRow; 7] = [
         word: OptionWord::Value("max-flushed-packets", Takes::Number(1, MOST_SIZE)),
         text: OptionText {
             value: "N",
-            meaning: "1 to 1,000,000, default 2,048, on one processor 1,024: the packets that a plugin or the output takes in one batch; where this or --max-input-packets alone is given, the other counts as 10,000",
+            meaning: "1 to 1,000,000, default 2,048, in one thread 1,024: the packets that a plugin or the output takes in one batch; where this or --max-input-packets alone is given, the other counts as 10,000",
             need: Need::Free,
             beside: Beside::Any,
         },
@@ -75,7 +76,7 @@ static GENERAL: [OptionRow; 7] = [
         word: OptionWord::Value("max-input-packets", Takes::Number(1, MOST_SIZE)),
         text: OptionText {
             value: "N",
-            meaning: "1 to 1,000,000, default 2,048, on one processor 1,024: the packets that the input takes in one batch",
+            meaning: "1 to 1,000,000, default 2,048, in one thread 1,024: the packets that the input takes in one batch",
             need: Need::Free,
             beside: Beside::Any,
         },
@@ -85,6 +86,15 @@ static GENERAL: [OptionRow; 7] = [
         text: OptionText {
             value: "",
             meaning: "no plugin ends the run jointly with others: until --joint-termination passes every packet",
+            need: Need::Free,
+            beside: Beside::Any,
+        },
+    },
+    OptionRow {
+        word: OptionWord::Value("threads", Takes::Choice(&["1", "auto"])),
+        text: OptionText {
+            value: "N",
+            meaning: "1 or auto, default auto: 1 runs the whole chain in one thread; auto gives the input, each plugin and the output a thread of its own, where there are two processors or more",
             need: Need::Free,
             beside: Beside::Any,
         },
@@ -102,6 +112,7 @@ fn general_settings(found: &ParsedOptions) -> Result<GeneralConf, Refusal>
     let buffer_packets = found.number("buffer-packets", 1, most)?;
     let max_flushed_packets = found.number("max-flushed-packets", 1, most)?;
     let max_input_packets = found.number("max-input-packets", 1, most)?;
+    let threads = read_threads(found)?;
     Ok(GeneralConf {
         add_start_stuffing,
         add_stop_stuffing,
@@ -110,6 +121,7 @@ fn general_settings(found: &ParsedOptions) -> Result<GeneralConf, Refusal>
         max_flushed_packets,
         max_input_packets,
         ignore_joint_termination: found.has_flag("ignore-joint-termination"),
+        threads,
     })
 }
 

@@ -15,6 +15,8 @@ mod plan_of_words;
 mod plan_type;
 mod plugin_list;
 mod segments;
+mod stage_threads;
+mod threads_words;
 mod words_fault;
 
 pub use general_conf::GeneralConf;
@@ -28,4 +30,5 @@ pub use plan_of_words::plan;
 pub use plan_type::Plan;
 pub use plugin_list::PluginList;
 pub use plugin_options::WordsRule;
+pub use stage_threads::StageThreads;
 pub use words_fault::WordsFault;

@@ -8,7 +8,7 @@ pub(crate) struct WordsRow {
     pub(crate) rule: WordsRule,
 }
 
-static ROWS: [WordsRow; 71] = [
+static ROWS: [WordsRow; 72] = [
     WordsRow {
         words: "-P filter --pid 9000 -O drop",
         at: 0,
@@ -46,6 +46,11 @@ static ROWS: [WordsRow; 71] = [
     },
     WordsRow {
         words: "-I file in.m2ts --format m2t",
+        at: 0,
+        rule: WordsRule::Value,
+    },
+    WordsRow {
+        words: "--threads 2",
         at: 0,
         rule: WordsRule::Value,
     },

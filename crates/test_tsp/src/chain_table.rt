@@ -9,10 +9,15 @@ pub(crate) struct Chain {
 }
 
 /// Together they use each plugin that uses packets alone, all over the same mixed stream.
-pub(crate) static CHAINS: [Chain; 7] = [
+pub(crate) static CHAINS: [Chain; 8] = [
     Chain {
         name: "filter, skip and count",
         general: "",
+        plugins: "-P filter --pid 256,258 -P skip 5 -P count",
+    },
+    Chain {
+        name: "the same in one thread by choice",
+        general: "--threads 1",
         plugins: "-P filter --pid 256,258 -P skip 5 -P count",
     },
     Chain {

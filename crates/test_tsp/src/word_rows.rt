@@ -8,7 +8,7 @@ pub(crate) fn rows() -> &'static [Row] {
     &WORD_ROWS
 }
 
-static WORD_ROWS: [Row; 9] = [
+static WORD_ROWS: [Row; 10] = [
     Row {
         name: "missing option",
         words: "-I null 2 -P filter -O drop",
@@ -54,6 +54,12 @@ static WORD_ROWS: [Row; 9] = [
     Row {
         name: "bad value of a general option",
         words: "--buffer-packets 0",
+        input: Input::Pids(&[]),
+        plan: ORDINARY,
+    },
+    Row {
+        name: "another number of threads than one",
+        words: "--threads 2",
         input: Input::Pids(&[]),
         plan: ORDINARY,
     },

@@ -69,7 +69,7 @@ EndsWell (Until j) = Unit {0}
 EndsWell (Stop j) = Unit {0}
 EndsWell _ = ⊥
 
--- two plans differ in the three sizes at most
+-- two plans differ in the three sizes and in their threads at most
 pub record SameButSizes (one other : Plan) : Type 0 where
   pub input : other.input ≡ one.input
   pub plugins : other.plugins ≡ one.plugins

@@ -38,8 +38,8 @@ use ts_outside::{Desk, Gate};
 /// - `Sync`, `Refused` and `TooLong` where that ended the run;
 /// - `Done` in all other cases.
 ///
-/// Each stage of the chain has a thread of its own where the program may use two processors, and it is `threaded_call`
-/// then; else it is `serial_call`. The runtime starts the threads and waits for them.
+/// Each stage of the chain has a thread of its own where the program may use two processors and the words do not ask for one
+/// thread; else one thread serves all stages. The runtime starts the threads and waits for them.
 pub fn tsp_call<R: Threads + Wait + Sync, D: Desk, G: Gate>(
     rt: &R,
     alloc: Global,
@@ -65,13 +65,12 @@ pub fn explained_call<R: Threads + Wait + Sync, D: Desk, G: Gate>(
     ensures call { CallsTsp (map string_bytes words.now) (D.seen desk.old) (D.seen desk.new) result.status }
     ensures plan { IfSome result.plan (λ plan. plan_of (map string_bytes words.now) ≡ Some plan) }
 {
-    match Driver::of_machine(rt) {
-        Driver::InThreads => call_in_threads(rt, alloc, words, desk, gate, asks_notes),
-        Driver::InOneThread => call_in_one_thread(alloc, words, desk, gate, asks_notes),
-    }
+    let driver = Driver::of_machine(rt);
+    call_by(rt, alloc, words, desk, gate, driver, asks_notes)
 }
 
-/// Does what `tsp_call` does, with a thread for each stage, on however many processors.
+/// Does what `tsp_call` does, with a thread for each stage on however many processors, where the words do not ask for one
+/// thread.
 pub fn threaded_call<R: Threads + Wait + Sync, D: Desk, G: Gate>(
     rt: &R,
     alloc: Global,
@@ -81,10 +80,11 @@ pub fn threaded_call<R: Threads + Wait + Sync, D: Desk, G: Gate>(
 ) -> Status
     ensures { CallsTsp (map string_bytes words.now) (D.seen desk.old) (D.seen desk.new) result }
 {
-    call_in_threads(rt, alloc, words, desk, gate, false).status
+    call_by(rt, alloc, words, desk, gate, Driver::InThreads, false).status
 }
 
-/// Does what `tsp_call` does, in one thread. It needs no handle, so it returns where the calls of the desk and the gate do.
+/// Does what `tsp_call` does, in one thread, whatever the words ask for. It needs no handle, so it returns where the calls of
+/// the desk and the gate do.
 pub fn serial_call<D: Desk, G: Gate>(
     alloc: Global,
     words: &[String],
@@ -96,13 +96,14 @@ pub fn serial_call<D: Desk, G: Gate>(
     call_in_one_thread(alloc, words, desk, gate, false).status
 }
 
-/// The call with a thread for each stage.
-fn call_in_threads<R: Threads + Wait + Sync, D: Desk, G: Gate>(
+/// The call by this driver, where the words do not ask for one thread.
+fn call_by<R: Threads + Wait + Sync, D: Desk, G: Gate>(
     rt: &R,
     alloc: Global,
     words: &[String],
     desk: &mut D,
     gate: &G,
+    driver: Driver,
     asks_notes: bool,
 ) -> CallEnd
     ensures call { CallsTsp (map string_bytes words.now) (D.seen desk.old) (D.seen desk.new) result.status }
@@ -111,7 +112,8 @@ fn call_in_threads<R: Threads + Wait + Sync, D: Desk, G: Gate>(
     let mut notes = PluginNotes::new(alloc, asks_notes);
     match plan(alloc, words) {
         Ok(plan) => {
-            let status = run_plan_in_threads(rt, alloc, &plan, desk, gate, &mut notes);
+            let driver = driver.chosen(&plan.general);
+            let status = run_plan(rt, alloc, &plan, desk, gate, driver, &mut notes);
             CallEnd {
                 status,
                 plan: Some(plan),
@@ -162,6 +164,25 @@ fn call_in_one_thread<D: Desk, G: Gate>(
             plan: None,
             notes,
         },
+    }
+}
+
+/// The call of a plan by this driver, and what is noted of its plugins.
+fn run_plan<R: Threads + Wait + Sync, D: Desk, G: Gate>(
+    rt: &R,
+    alloc: Global,
+    plan: &Plan,
+    desk: &mut D,
+    gate: &G,
+    driver: Driver,
+    notes: &mut PluginNotes,
+) -> Status
+    requires { IsValidPlan plan.now }
+    ensures { CallsPlan plan.now (D.seen desk.old) (D.seen desk.new) result }
+{
+    match driver {
+        Driver::InThreads => run_plan_in_threads(rt, alloc, plan, desk, gate, notes),
+        Driver::InOneThread => run_plan_in_one_thread(alloc, plan, desk, gate, notes),
     }
 }
 

@@ -3,6 +3,7 @@ ghost use Rattle.std.specs.Prelude.{◌≤◌};
 ghost use Rattle.tsp_top.specs.Sizes.{default_buffer, default_batch};
 
 use crate::one_thread::MOST_AT_A_TIME;
+use chain_args::{GeneralConf, StageThreads};
 use std::thread::{Threads, available_parallelism};
 
 /// The threads that serve the stages of a chain.
@@ -37,6 +38,14 @@ impl Driver {
                 }
             }
             Err(_) => Driver::InThreads,
+        }
+    }
+
+    /// The driver for these general options: one thread where they ask for it, else this one.
+    pub(crate) fn chosen(self, general: &GeneralConf) -> Driver {
+        match general.threads {
+            StageThreads::One => Driver::InOneThread,
+            StageThreads::Auto => self,
         }
     }
 

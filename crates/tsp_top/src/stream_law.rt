@@ -43,7 +43,7 @@ pub fn completeness()
         → EndsWell (pure_run (chain_of plan tables files)).cause → (status ≡ Done) ⊎ (status ≡ NoMemory) }
 {}
 
-/// The run without faults is the same for plans that differ in the three sizes alone.
+/// The run without faults is the same for plans that differ in the three sizes and in their threads alone.
 pub fn sizes_change_nothing()
     ensures { (one other : Plan) (tables : List (List (List ℕ))) (files : List (List ℕ × List ℕ))
         → SameButSizes one other

@@ -22,7 +22,7 @@ pub returns-clause-reads : goal.returns-clause-reads
 returns-clause-reads c = (
   nothing_broken general c.args.found.now refl
       (all_true _ _ c.in_ok-add_start_stuffing.ensures.reads.0 (all_true _ _ c.in_ok-add_stop_stuffing.ensures.reads.0 (all_true _ _ c.in_ok-between.ensures.reads.0
-      (all_true _ _ c.in_ok-buffer_packets.ensures.reads.0 (all_true _ _ c.in_ok-max_flushed_packets.ensures.reads.0 (all_true _ _ c.in_ok-max_input_packets.ensures.reads.0 refl))))))
+      (all_true _ _ c.in_ok-buffer_packets.ensures.reads.0 (all_true _ _ c.in_ok-max_flushed_packets.ensures.reads.0 (all_true _ _ c.in_ok-max_input_packets.ensures.reads.0 (all_true _ _ c.in_ok-threads.ensures.0 refl)))))))
       refl,
   cc (
     c.in_ok-add_start_stuffing.ensures.reads.1,
@@ -31,6 +31,7 @@ returns-clause-reads c = (
     c.in_ok-buffer_packets.ensures.reads.1,
     c.in_ok-max_flushed_packets.ensures.reads.1,
     c.in_ok-max_input_packets.ensures.reads.1,
+    c.in_ok-threads.ensures.1,
     c.unwrap_or.ensures,
     c.has_flag.ensures,
   ),
