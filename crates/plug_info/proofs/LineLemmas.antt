@@ -100,12 +100,13 @@ pub map_map : {X Y Z : Type 0} (f : Y → Z) (g : X → Y) (xs : List X) → map
 map_map f g [] = refl
 map_map f g (x ∷ xs) = ap (λ zs. f (g x) ∷ zs) (map_map f g xs)
 
--- five lists of lines, one after another
-pub five_pushed : (cut : ℕ) (lines a b c d e : List Line) (stream : List ℕ) (xs ys zs us : List (List ℕ)) → a ≡ lines ++ placed_at cut (stream ∷ []) → b ≡ a ++ placed_at cut xs
-    → c ≡ b ++ placed_at cut ys → d ≡ c ++ placed_at cut zs → e ≡ d ++ placed_at cut us → e ≡ lines ++ placed_at cut ((stream ∷ xs) ++ (ys ++ (zs ++ us)))
-five_pushed cut lines a b c d e stream xs ys zs us p q r s t =
-    pushed_after cut lines b e (stream ∷ xs) (ys ++ (zs ++ us)) (pushed_after cut lines a b (stream ∷ []) xs p q)
-    (pushed_after cut b c e ys (zs ++ us) r (pushed_after cut c d e zs us s t))
+-- six lists of lines, one after another
+pub six_pushed : (cut : ℕ) (lines a b c d e f : List Line) (stream : List ℕ) (xs ns ys zs us : List (List ℕ)) → a ≡ lines ++ placed_at cut (stream ∷ []) → b ≡ a ++ placed_at cut xs
+    → c ≡ b ++ placed_at cut ns → d ≡ c ++ placed_at cut ys → e ≡ d ++ placed_at cut zs → f ≡ e ++ placed_at cut us
+    → f ≡ lines ++ placed_at cut ((stream ∷ xs) ++ (ns ++ (ys ++ (zs ++ us))))
+six_pushed cut lines a b c d e f stream xs ns ys zs us p q n r s t =
+    pushed_after cut lines b f (stream ∷ xs) (ns ++ (ys ++ (zs ++ us))) (pushed_after cut lines a b (stream ∷ []) xs p q)
+    (pushed_after cut b c f ns (ys ++ (zs ++ us)) n (pushed_after cut c d f ys (zs ++ us) r (pushed_after cut d e f zs us s t)))
 
 -- the end of a component's line, each part of which is known
 pub tail_is : (scene scene_new : Scene) (numbers numbers_new : PidNumbers) (users users_new : ℕ) → scene ≡ scene_new → numbers ≡ numbers_new → users ≡ users_new

@@ -3,7 +3,7 @@ use Rattle.std.proofs.Common.{◌≡◌, ℕ, zero, suc, ◌+◌, ◌<◌, List,
 use Rattle.std.proofs.lemmas.List.{length-take-le, take_more}
 use Rattle.ts_packet.specs.declared.cell.Cell.{Cell}
 use Rattle.plug_info.specs.MetState.{HasMet}
-use Rattle.plug_info.specs.Tracked.{Tracks, TracksSome}
+use Rattle.plug_info_state.specs.Tracked.{Tracks, TracksSome}
 use Rattle.plug_info.specs.declared.met_cells.MetCells.{MetCells}
 
 -- no cell yet

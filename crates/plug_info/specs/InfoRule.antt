@@ -1,5 +1,5 @@
 -- The rule of `info`: what is in a stream, on one screen. This project's own rule, over the header fields of ISO/IEC
--- 13818-1, 2.4.3.2, the tables of 2.4.4.3 and 2.4.4.8, and the SDT of ETSI EN 300 468, 5.2.3.
+-- 13818-1, 2.4.3.2, the tables of 2.4.4.3 and 2.4.4.8, and the NIT, BATs, SDT and EITs of ETSI EN 300 468, 5.2.
 use Rattle.std.specs.Prelude.{ℕ, ◌+◌, ◌==◌, ◌&&◌, Bool, false, not, List, [], ◌∷◌, ◌++◌, length, map, filter, fold, count_by, drop, Option, unwrap_or, if◌then◌else◌}
 use Rattle.std.specs.List.{flat_map, list_any}
 use Rattle.ts_packet.specs.declared.cell.Cell.{Cell}
@@ -12,31 +12,26 @@ use Rattle.chain_model.specs.PluginRule.{PluginRule, passes}
 use Rattle.plugin_notes.specs.PidPackets.{numbers_below, packets_on}
 use Rattle.plug_psi.specs.InForce.{pat_of, pmt_of, services_in}
 use Rattle.plug_analyze.specs.AnalyzeRule.{fault_pids, is_scrambled}
+use Rattle.plug_info_texts.specs.EitTexts.{eit_json, eit_text}
 use Rattle.plug_info_texts.specs.InfoJson
 use Rattle.plug_info_texts.specs.InfoTexts
 use Rattle.plug_info_texts.specs.InfoJson.{array, ca_json, component_json, number_or_null, pid_json, portion_json, service_json, stream_json, whole_json}
 use Rattle.plug_info_texts.specs.InfoTexts.{ca_line, component_text, marks_text, pid_text, portion_text, sdt_texts, service_text, stream_text}
 use Rattle.plug_info.specs.CaSystems.{emm_systems, program_descriptors, system_ids}
-use Rattle.plug_info.specs.PacketExtent.{extent_of}
-use Rattle.plug_info.specs.PcrRate.{breaks_of, rate_of}
+use Rattle.plug_info.specs.NetworkNames.{name_lines, names_json}
+use Rattle.plug_info_state.specs.EitSections.{eit_of}
+use Rattle.plug_info_state.specs.PacketExtent.{extent_of}
+pub use Rattle.plug_info_state.specs.PidCounts.{numbers_on}
+use Rattle.plug_info_state.specs.PcrRate.{breaks_of, rate_of}
 pub use Rattle.plug_info.specs.PidUses.{use_of}
 pub use Rattle.plug_info.specs.PmtFields.{pcr_pid_in}
-use Rattle.plug_info.specs.SdtInForce.{is_number, items_in, sdt_of, service_body}
-pub use Rattle.plug_info.specs.SdtInForce.{stream_id_in}
+use Rattle.plug_info_state.specs.SdtInForce.{is_number, items_in, sdt_of, service_body}
+pub use Rattle.plug_info_state.specs.SdtInForce.{stream_id_in}
 use Rattle.plug_info.specs.SdtStatus.{service_status}
 use Rattle.plug_info.specs.declared.ca_system.CaSystem.{CaSystem}
 use Rattle.plug_info.specs.declared.info_conf.InfoConf.{InfoConf}
-use Rattle.plug_info_texts.specs.declared.pid_numbers.PidNumbers.{PidNumbers}
 use Rattle.plug_info_texts.specs.declared.scene.Scene.{Scene}
 use Rattle.plug_info_texts.specs.declared.stream_numbers.StreamNumbers.{StreamNumbers}
-
--- how many packets on a PID are of each kind, in a list of cells
-abbrev pub numbers_on : ℕ → List Cell → PidNumbers
-numbers_on pid cells = record {
-  packets = packets_on pid (live_packets cells);
-  scrambled = packets_on pid (filter is_scrambled (live_packets cells));
-  faults = count_by (λ q. q == pid) (fault_pids cells);
-}
 
 -- The number of all packets, of which shares are parts; and how far they reach and how many bits pass in a second,
 -- which give the time that they take: bit rates are bits over this time.
@@ -83,7 +78,8 @@ service_line cells service =
     let pmt = pmt_of service.0 (live_packets cells) in
     service_text service.0 service.1 body (pcr_pid_in pmt)
     (portion_text (scene_of cells) (service_packets pmt (live_packets cells)))
-    (InfoTexts.service_marks (system_ids (program_descriptors pmt)) (service_status (sdt_of (live_packets cells)) service.0))
+    (InfoTexts.service_marks (system_ids (program_descriptors pmt)) (service_status (sdt_of (live_packets cells)) service.0)
+    ++ eit_text (eit_of service.0 (live_packets cells)))
 
 -- the lines of a service: its own, and those of the components of its PMT in force
 abbrev pub service_lines : List Cell → ℕ × ℕ → List (List ℕ)
@@ -102,15 +98,16 @@ pid_lines cells pid =
 abbrev pub system_line : CaSystem → List ℕ
 system_line system = ca_line system.id system.pid
 
--- the report on a list of cells: the stream, the conditional access systems of the CAT in force, the services of the PAT
--- in force with their components, and the other PIDs
+-- the report on a list of cells: the stream, the network and the bouquets by name, the conditional access systems of the
+-- CAT in force, the services of the PAT in force with their components, and the other PIDs
 abbrev pub info_on : List Cell → List (List ℕ)
 info_on cells =
     (stream_text (stream_numbers cells)
     ∷ sdt_texts (stream_id_in (pat_of (live_packets cells))) (stream_id_in (sdt_of (live_packets cells))))
+    ++ (name_lines (live_packets cells)
     ++ (map system_line (emm_systems (live_packets cells))
     ++ (flat_map (service_lines cells) (services_in (pat_of (live_packets cells)))
-    ++ flat_map (pid_lines cells) (numbers_below PID_COUNT)))
+    ++ flat_map (pid_lines cells) (numbers_below PID_COUNT))))
 
 -- the object of a component of a service
 abbrev pub component_object : List Cell → ItemHolding → List ℕ
@@ -125,7 +122,8 @@ service_object cells service =
     let pmt = pmt_of service.0 (live_packets cells) in
     service_json service.0 service.1 (service_body (sdt_of (live_packets cells)) service.0) (pcr_pid_in pmt)
     (portion_json (scene_of cells) (service_packets pmt (live_packets cells)))
-    (InfoJson.service_marks (system_ids (program_descriptors pmt)) (service_status (sdt_of (live_packets cells)) service.0))
+    (InfoJson.service_marks (system_ids (program_descriptors pmt)) (service_status (sdt_of (live_packets cells)) service.0)
+    ++ eit_json (eit_of service.0 (live_packets cells)))
     (array (map (component_object cells) (items_in pmt)))
 
 -- the object of a PID that has packets and is not a component's
@@ -140,11 +138,11 @@ pid_objects cells pid =
 abbrev pub system_object : CaSystem → List ℕ
 system_object system = ca_json system.id system.pid
 
--- the report on a list of cells as one JSON object
+-- the report on a list of cells as one JSON object; the keys of the network and of the bouquets follow the one of the SDT
 abbrev pub json_on : List Cell → List ℕ
 json_on cells =
     whole_json (stream_json (stream_numbers cells))
-    (number_or_null (stream_id_in (sdt_of (live_packets cells))))
+    (number_or_null (stream_id_in (sdt_of (live_packets cells))) ++ names_json (live_packets cells))
     (array (map system_object (emm_systems (live_packets cells))))
     (array (map (service_object cells) (services_in (pat_of (live_packets cells)))))
     (array (flat_map (pid_objects cells) (numbers_below PID_COUNT)))

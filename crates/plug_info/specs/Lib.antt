@@ -1,23 +1,14 @@
--- The definitions of `plug_info`: the rule, texts and state of `info`.
+-- The definitions of `plug_info`: the rule of `info`, its options, and what the plugin stands for.
 pub mod CaSystems
-pub mod CatStands
-pub mod ClockSpans
 pub mod Components
-pub mod ExtentKept
 pub mod InfoRule
 pub mod InfoSettings
 pub mod InfoStands
 pub mod InfoWords
 pub mod MetState
-pub mod OtherStands
-pub mod PacketExtent
-pub mod PcrRate
+pub mod NetworkNames
 pub mod PidUses
 pub mod PmtFields
-pub mod SdtInForce
-pub mod SdtStands
 pub mod SdtStatus
-pub mod TotalsOf
-pub mod Tracked
 pub mod UsesOf
 pub mod InfoEntry

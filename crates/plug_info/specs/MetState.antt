@@ -3,7 +3,7 @@
 use Rattle.std.specs.Prelude.{◌≡◌, ◌≤◌, ℕ, List, length, take, drop}
 use Rattle.ts_packet.specs.declared.cell.Cell.{Cell}
 use Rattle.chain_model.specs.declared.positions.TheConstants.{POSITION_LIMIT}
-use Rattle.plug_info.specs.Tracked.{Tracks}
+use Rattle.plug_info_state.specs.Tracked.{Tracks}
 use Rattle.plug_info.specs.declared.met_cells.MetCells.{MetCells}
 
 -- these cells were processed, and this is the greatest mark

@@ -9,11 +9,11 @@ ghost use Rattle.plug_info_texts.specs.InfoJson;
 ghost use Rattle.plug_info_texts.specs.InfoJson.{after_comma};
 ghost use Rattle.plug_info.specs.CaSystems.{emm_systems};
 ghost use Rattle.plug_info.specs.InfoRule.{system_line, system_object};
-ghost use Rattle.plug_info.specs.Tracked.{Tracks};
+ghost use Rattle.plug_info_state.specs.Tracked.{Tracks};
 
 use crate::ca_system::CaSystem;
 use crate::pid_uses::emm_systems;
-use crate::tracker::Tracker;
+use plug_info_state::Tracker;
 use plug_info_texts::{array, push_item};
 use plugin_notes::push_line;
 use plugin_trait::{Line, LineText};

@@ -47,7 +47,7 @@ impl PluginSettings for InfoConf {
     fn help() -> PluginHelp {
         PluginHelp {
             usage: "-P info [--json]",
-            rule: "At the end there is a line for the stream, with its packets, its transport_stream_id and its bit rate by PCRs; for each service of the PAT, with its name and provider of the SDT, its PIDs and its part of the bit rate, one and under it one for each component; and one for each other PID, which is unnamed where no table has it. What the stream does not have is none. Errored packets have the transport error indicator, and faults are those of continuity. A bit rate is bits over time by the clock, also after a plugin that drops packets. Where the clock jumps or stands still, or has a gap of more than a second, the way has no part in it, and counts as one of the breaks. Every packet passes.",
+            rule: "At the end there is a line for the stream, with its packets, its transport_stream_id and its bit rate by PCRs; one for the network of the NIT, and for each bouquet of a BAT, by name; for each service of the PAT, with its name and provider of the SDT, its PIDs, its part of the bit rate and its EIT sections, one and under it one for each component; and one for each other PID, which is unnamed where no table has it. What the stream does not have is none. Errored packets have the transport error indicator, and faults are those of continuity. A bit rate is bits over time by the clock, also after a plugin that drops packets. Where the clock jumps or stands still, or has a gap of more than a second, the way has no part in it, and counts as one of the breaks. Every packet passes.",
         }
     }
 

@@ -10,30 +10,33 @@ ghost use Rattle.ts_psi.specs.PsiTables.{component_item, pmt_held};
 ghost use Rattle.plugin_notes.specs.PidPackets.{numbers_below};
 ghost use Rattle.plugin_trait.specs.PlacedLines.{placed_at};
 ghost use Rattle.plug_psi.specs.InForce.{pat_of, pmt_of, services_in};
+ghost use Rattle.plug_info_texts.specs.EitTexts.{eit_json};
 ghost use Rattle.plug_info_texts.specs.InfoJson;
 ghost use Rattle.plug_info_texts.specs.InfoJson.{after_comma};
 ghost use Rattle.plug_info.specs.InfoRule.{component_object, json_on, pid_objects, scene_of, service_object};
-ghost use Rattle.plug_info.specs.SdtInForce.{items_in, sdt_of};
+ghost use Rattle.plug_info_state.specs.SdtInForce.{items_in, sdt_of};
 ghost use Rattle.plug_info.specs.CaSystems.{program_descriptors, system_ids};
 ghost use Rattle.plug_info.specs.SdtStatus.{service_status};
-ghost use Rattle.plug_info.specs.Tracked.{Tracks};
+ghost use Rattle.plug_info_state.specs.EitSections.{eit_of};
+ghost use Rattle.plug_info_state.specs.Tracked.{Tracks};
 ghost use Rattle.plug_info.specs.UsesOf.{AreUses};
 
 use crate::ca_system::system_ids;
 use crate::cat_lines::systems_json;
+use crate::network_names::names_json;
 use crate::pid_uses::PidUses;
 use crate::service_status::{program_descriptors, service_status};
 use crate::service_texts::service_body;
 use crate::summary::{
     numbers_shown, pcr_pid_in, sdt_stream_id, service_packets, stream_numbers, uses_of,
 };
-use crate::tracker::Tracker;
 use crate::users::{components_of, services_of, users_of};
+use plug_info_state::Tracker;
 use plug_info_texts::json_texts::{
     component_head, component_tail, service_head, service_tail, stream_json,
 };
 use plug_info_texts::{
-    PidNumbers, Scene, array, marks_json, number_or_null, portion_json, push_item,
+    PidNumbers, Scene, array, eit_json, marks_json, number_or_null, portion_json, push_item,
     service_marks_json, troubles_json, widened,
 };
 use plug_psi::number_and_pid;
@@ -43,7 +46,7 @@ use std::alloc::{AllocError, Global};
 use ts_packet::PID_COUNT;
 use ts_psi::{Component, Pmt};
 
-/// Appends the object as a line: the stream, the services in force with their components, and the other PIDs.
+/// Appends the object as a line: the stream, the network and the bouquets, the services in force with their components, and the other PIDs.
 pub fn push_json(lines: &mut Vec<Line>, cut: u64, tracker: &Tracker) -> Result<(), AllocError>
     ensures { OnOk result ((cells : List GivenCell) → Tracks tracker.now cells
         → lines.new.items ≡ lines.old.items ++ placed_at cut (json_on cells ∷ [])) }
@@ -66,6 +69,8 @@ fn whole_json(alloc: Global, tracker: &Tracker) -> Result<LineText, AllocError>
     };
     let stream = stream_json(alloc, &numbers)?;
     let sdt = number_or_null(alloc, widened(sdt_stream_id(tracker)))?;
+    let names = names_json(alloc, tracker)?;
+    let sdt = format!(in alloc; "{sdt}{names}")?;
     let cas = systems_json(alloc, tracker)?;
     let services = services_json(alloc, tracker, &scene)?;
     let pids = pids_json(alloc, tracker, &scene)?;
@@ -127,7 +132,7 @@ fn service_json(
     Ok(text)
 }
 
-// What else it has: its CA_system_ids, and what the SDT says of its access and its state.
+// What else it has: its CA_system_ids, what the SDT says of its access and its state, and its EIT sections.
 fn service_marks(
     alloc: Global,
     tracker: &Tracker,
@@ -137,11 +142,13 @@ fn service_marks(
     ensures { IfOk result (λ text. (cells : List GivenCell) → Tracks tracker.now cells
         → option_map pmt_held (option_copied pmt.entry) ≡ pmt_of id (live_packets cells)
         → string_bytes text ≡ InfoJson.service_marks (system_ids (program_descriptors (pmt_of id (live_packets cells))))
-        (service_status (sdt_of (live_packets cells)) id)) }
+        (service_status (sdt_of (live_packets cells)) id) ++ eit_json (eit_of id (live_packets cells))) }
 {
     let ids = system_ids(alloc, program_descriptors(pmt))?;
     let status = service_status(tracker.sdt_in_force(), id);
-    let text = service_marks_json(alloc, &ids, status)?;
+    let marks = service_marks_json(alloc, &ids, status)?;
+    let eit = eit_json(alloc, tracker.eit_of(id))?;
+    let text = format!(in alloc; "{marks}{eit}")?;
     Ok(text)
 }
 
@@ -190,7 +197,7 @@ fn component_json(
     ensures { IfOk result (λ text. (cells : List GivenCell) → Tracks tracker.now cells → scene.now ≡ scene_of cells
         → string_bytes text ≡ component_object cells (component_item component.now)) }
 {
-    let numbers = tracker.totals.numbers_on(component.pid);
+    let numbers = tracker.counts.numbers_on(component.pid);
     let users = users_of(&tracker.force, component.pid);
     let head = component_head(alloc, component.pid, component.stream_type)?;
     let marks = component_marks(alloc, component)?;

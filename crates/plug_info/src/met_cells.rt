@@ -5,8 +5,8 @@
 //! beside the one before. A copy is 200 bytes, and the buffer has some thousands of them.
 ghost use Rattle.std.specs.Prelude.{◌≡◌, ◌∷◌, IfSome};
 
-use crate::tracker::Tracker;
 use circular_buffer::HeapCircularBuffer;
+use plug_info_state::Tracker;
 use plugin_notes::push_note;
 use std::alloc::{AllocError, Global};
 use ts_packet::Cell;

@@ -3,11 +3,11 @@ ghost use Rattle.std.specs.Prelude.{◌≡◌, ◌++◌, List, OnOk};
 ghost use Rattle.ts_packet.specs.declared.cell.Cell.{Cell as GivenCell};
 ghost use Rattle.plugin_trait.specs.PlacedLines.{placed_at};
 ghost use Rattle.plug_info.specs.InfoRule.{report_in};
-ghost use Rattle.plug_info.specs.Tracked.{Tracks};
+ghost use Rattle.plug_info_state.specs.Tracked.{Tracks};
 
 use crate::json::push_json;
 use crate::summary::push_summary;
-use crate::tracker::Tracker;
+use plug_info_state::Tracker;
 use plugin_trait::Line;
 use std::alloc::AllocError;
 

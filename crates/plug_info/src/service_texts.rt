@@ -2,7 +2,7 @@
 ghost use Rattle.std.specs.Prelude.{◌≡◌, map, option_map};
 ghost use Rattle.std.specs.Option.{option_copied};
 ghost use Rattle.ts_si.specs.SiTables.{sdt_held, service_item};
-ghost use Rattle.plug_info.specs.SdtInForce.{body_with, described_in, service_body};
+ghost use Rattle.plug_info_state.specs.SdtInForce.{body_with, described_in, service_body};
 
 use ts_bits::Descriptor;
 use ts_si::{Sdt, SdtService};
@@ -29,8 +29,8 @@ fn described_in(services: &[SdtService], id: u16) -> &[Descriptor]
     &[]
 }
 
-// The body of the first descriptor with a tag.
-fn body_with(tag: u8, descriptors: &[Descriptor]) -> Option<&[u8]>
+/// The body of the first descriptor with a tag.
+pub fn body_with(tag: u8, descriptors: &[Descriptor]) -> Option<&[u8]>
     ensures { option_map (λ b. b.now) result ≡ body_with tag descriptors.now }
 {
     for descriptor in descriptors {

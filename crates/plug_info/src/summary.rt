@@ -13,26 +13,30 @@ ghost use Rattle.plugin_trait.specs.PlacedLines.{placed_at};
 ghost use Rattle.plug_psi.specs.InForce.{pat_of, pmt_of, services_in};
 ghost use Rattle.plug_info.specs.InfoRule.{component_line, has_component, info_on, numbers_on, pcr_pid_in, pid_lines, scene_of, service_line, service_lines, service_packets, stream_id_in, stream_numbers, users_of};
 ghost use Rattle.plug_info_texts.specs.InfoTexts.{pid_text, sdt_texts};
-ghost use Rattle.plug_info.specs.SdtInForce.{sdt_of};
+ghost use Rattle.plug_info_state.specs.SdtInForce.{sdt_of};
 ghost use Rattle.plug_info.specs.CaSystems.{program_descriptors, system_ids};
 ghost use Rattle.plug_info.specs.SdtStatus.{service_status};
-ghost use Rattle.plug_info.specs.Tracked.{Tracks};
+ghost use Rattle.plug_info_state.specs.EitSections.{eit_of};
+ghost use Rattle.plug_info_state.specs.Tracked.{Tracks};
 ghost use Rattle.plug_info.specs.UsesOf.{AreUses};
+ghost use Rattle.plug_info_texts.specs.EitTexts.{eit_text};
 ghost use Rattle.plug_info_texts.specs.InfoTexts;
 ghost use Rattle.plugin_notes.specs.PidPackets.{packets_on};
 
 use crate::ca_system::system_ids;
 use crate::cat_lines::push_systems;
+use crate::network_names::push_names;
 use crate::pid_uses::PidUses;
 use crate::service_status::{program_descriptors, service_status};
 use crate::service_texts::service_body;
-use crate::tracker::Tracker;
 use crate::users::{components_of, has_component, services_of, users_of};
+use plug_info_state::Tracker;
 use plug_info_texts::line_texts::{
     component_head, component_tail, service_head, service_tail, stream_text,
 };
 use plug_info_texts::{
-    PidNumbers, Scene, StreamNumbers, marks_text, portion_text, service_marks_text, troubles_text,
+    PidNumbers, Scene, StreamNumbers, eit_text, marks_text, portion_text, service_marks_text,
+    troubles_text,
 };
 use plug_psi::number_and_pid;
 use plugin_notes::push_line;
@@ -41,7 +45,7 @@ use std::alloc::{AllocError, Global};
 use ts_packet::{NULL_PID, PID_COUNT};
 use ts_psi::{Component, Pmt};
 
-/// Appends the summary: the stream, the services in force with their components, and the other PIDs.
+/// Appends the summary: the stream, the network and the bouquets, the services in force with their components, and the other PIDs.
 pub fn push_summary(lines: &mut Vec<Line>, cut: u64, tracker: &Tracker) -> Result<(), AllocError>
     ensures { OnOk result ((cells : List GivenCell) → Tracks tracker.now cells
         → lines.new.items ≡ lines.old.items ++ placed_at cut (info_on cells)) }
@@ -56,6 +60,7 @@ pub fn push_summary(lines: &mut Vec<Line>, cut: u64, tracker: &Tracker) -> Resul
     let text = stream_text(alloc, &numbers)?;
     push_line(lines, cut, text)?;
     push_sdt(lines, cut, numbers.stream_id, sdt_stream_id(tracker))?;
+    push_names(lines, cut, tracker)?;
     push_systems(lines, cut, tracker)?;
     push_services(lines, cut, tracker, &scene)?;
     push_pids(lines, cut, tracker, &scene)?;
@@ -67,15 +72,15 @@ pub fn stream_numbers(tracker: &Tracker) -> StreamNumbers
     ensures { (cells : List GivenCell) → Tracks tracker.now cells → result ≡ stream_numbers cells }
 {
     StreamNumbers {
-        packets: tracker.totals.packets(),
+        packets: tracker.counts.packets(),
         extent: tracker.extent.positions,
         stream_id: tracker.stream_id(),
         rate: tracker.spans.rate(),
         breaks: tracker.spans.breaks(),
-        nulls: tracker.totals.packets_on(NULL_PID),
-        errored: tracker.totals.errored(),
-        scrambled: tracker.totals.scrambled(),
-        faults: tracker.totals.faults(),
+        nulls: tracker.counts.packets_on(NULL_PID),
+        errored: tracker.counts.errored(),
+        scrambled: tracker.counts.scrambled(),
+        faults: tracker.counts.faults(),
     }
 }
 
@@ -182,7 +187,7 @@ fn service_text(
     Ok(LineText::of(text))
 }
 
-// What else its line has: its CA_system_ids, and what the SDT says of its access and its state.
+// What else its line has: its CA_system_ids, what the SDT says of its access and its state, and its EIT sections.
 fn service_marks(
     alloc: Global,
     tracker: &Tracker,
@@ -192,11 +197,13 @@ fn service_marks(
     ensures { IfOk result (λ text. (cells : List GivenCell) → Tracks tracker.now cells
         → option_map pmt_held (option_copied pmt.entry) ≡ pmt_of id (live_packets cells)
         → string_bytes text ≡ InfoTexts.service_marks (system_ids (program_descriptors (pmt_of id (live_packets cells))))
-        (service_status (sdt_of (live_packets cells)) id)) }
+        (service_status (sdt_of (live_packets cells)) id) ++ eit_text (eit_of id (live_packets cells))) }
 {
     let ids = system_ids(alloc, program_descriptors(pmt))?;
     let status = service_status(tracker.sdt_in_force(), id);
-    let text = service_marks_text(alloc, &ids, status)?;
+    let marks = service_marks_text(alloc, &ids, status)?;
+    let eit = eit_text(alloc, tracker.eit_of(id))?;
+    let text = format!(in alloc; "{marks}{eit}")?;
     Ok(text)
 }
 
@@ -215,7 +222,7 @@ pub fn service_packets(tracker: &Tracker, pmt: Option<&Pmt>) -> u64
     ensures { (cells : List GivenCell) → Tracks tracker.now cells
         → result ≡ service_packets (option_map pmt_held (option_copied pmt.entry)) (live_packets cells) }
 {
-    let all = tracker.totals.packets();
+    let all = tracker.counts.packets();
     let mut packets: u64 = 0;
     for pid in 0..PID_COUNT {
         packets = plus(
@@ -233,7 +240,7 @@ fn packets_if(tracker: &Tracker, is_one: bool, pid: u16) -> u64
     ensures { (cells : List GivenCell) → Tracks tracker.now cells → result ≡ (if is_one then packets_on pid (live_packets cells) else 0) }
 {
     if is_one {
-        tracker.totals.packets_on(pid)
+        tracker.counts.packets_on(pid)
     } else {
         0
     }
@@ -277,7 +284,7 @@ fn component_text(
     ensures { IfOk result (λ text. (cells : List GivenCell) → Tracks tracker.now cells → scene.now ≡ scene_of cells
         → text ≡ component_line cells service (component_item component.now)) }
 {
-    let numbers = tracker.totals.numbers_on(component.pid);
+    let numbers = tracker.counts.numbers_on(component.pid);
     let users = users_of(&tracker.force, component.pid);
     let head = component_head(alloc, component.pid, service, component.stream_type)?;
     let marks = component_marks(alloc, component)?;
@@ -344,7 +351,7 @@ pub fn numbers_shown(tracker: &Tracker, pid: u16) -> Option<PidNumbers>
     ensures { (cells : List GivenCell) → Tracks tracker.now cells
         → result ≡ (if not (packets_on pid (live_packets cells) == 0) && (users_of (live_packets cells) pid == 0) then Some (numbers_on pid cells) else None) }
 {
-    let numbers = tracker.totals.numbers_on(pid);
+    let numbers = tracker.counts.numbers_on(pid);
     if numbers.packets == 0 {
         return None;
     }

@@ -5,3 +5,4 @@ pub mod JsonLemmas
 pub mod MarkLemmas
 pub mod PlainLemmas
 mod Rows
+mod NamedRows

@@ -3,6 +3,8 @@
 //! which text it is.
 #![tactic(auto)]
 
+mod eit_numbers;
+mod eit_texts;
 mod json_marks;
 mod json_parts;
 pub mod json_texts;
@@ -10,6 +12,7 @@ mod languages;
 pub mod line_texts;
 mod marks;
 mod name_row;
+mod named;
 mod pid_numbers;
 mod plain_texts;
 mod portions;
@@ -20,10 +23,13 @@ mod service_names;
 mod shown;
 mod stream_numbers;
 
+pub use eit_numbers::EitNumbers;
+pub use eit_texts::{eit_json, eit_text};
 pub use json_marks::marks_json;
 pub use json_parts::{array, number_or_null, portion_json, push_item, troubles_json};
 pub use languages::marks_text;
 pub use name_row::pid_name;
+pub use named::{named_json, named_text};
 pub use pid_numbers::PidNumbers;
 pub use portions::{portion_text, troubles_text};
 pub use rounding::rounded;

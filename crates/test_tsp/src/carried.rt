@@ -1,5 +1,6 @@
 //! The tables that packets of the rows on editors carry.
 use crate::named_tables::NamedTable;
+use crate::network_tables::NetworkTable;
 
 /// A PAT with the service 1 on PID 4096.
 static PAT: [u8; 16] = [
@@ -56,6 +57,8 @@ pub(crate) enum Carried {
     Nit,
     /// One with names and descriptors.
     Named(NamedTable),
+    /// One of a network or a bouquet, or an EIT section.
+    Network(NetworkTable),
 }
 
 impl Carried {
@@ -68,6 +71,7 @@ impl Carried {
             Carried::Sdt | Carried::OtherSdt => 17,
             Carried::Nit => 16,
             Carried::Named(table) => table.pid(),
+            Carried::Network(table) => table.pid(),
         }
     }
 
@@ -83,6 +87,7 @@ impl Carried {
             Carried::OtherSdt => &OTHER_SDT,
             Carried::Nit => &NIT,
             Carried::Named(table) => table.section(),
+            Carried::Network(table) => table.section(),
         }
     }
 }

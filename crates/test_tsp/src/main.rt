@@ -32,6 +32,7 @@ mod meeting_pairs;
 mod mixed_stream;
 mod name_rows;
 mod named_tables;
+mod network_tables;
 mod note_rows;
 mod outcome;
 mod plugin_rows;

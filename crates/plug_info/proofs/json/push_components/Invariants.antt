@@ -5,7 +5,7 @@ use Rattle.ts_packet.specs.declared.cell.Cell.{Cell}
 use Rattle.ts_psi.specs.PsiTables.{component_item}
 use Rattle.plug_info_texts.specs.InfoJson.{after_comma}
 use Rattle.plug_info.specs.InfoRule.{component_object, scene_of}
-use Rattle.plug_info.specs.Tracked.{Tracks}
+use Rattle.plug_info_state.specs.Tracked.{Tracks}
 use Rattle.plug_info.proofs.json.push_components.Given as goal
 
 abbrev pub invariant-loop-component : goal.invariant-loop-component

@@ -6,7 +6,7 @@ use Rattle.ts_packet.specs.Cells.{live_packets}
 use Rattle.plugin_notes.specs.PidPackets.{numbers_below}
 use Rattle.plug_info_texts.specs.InfoJson.{after_comma}
 use Rattle.plug_info.specs.InfoRule.{pid_objects, scene_of}
-use Rattle.plug_info.specs.Tracked.{Tracks}
+use Rattle.plug_info_state.specs.Tracked.{Tracks}
 use Rattle.plug_info.specs.UsesOf.{AreUses}
 use Rattle.plug_info.proofs.json.push_each_pid.Given as goal
 

@@ -6,7 +6,7 @@ use Rattle.ts_psi.specs.PatTables.{service_item}
 use Rattle.plug_psi.specs.InForce.{service_in}
 use Rattle.plug_info_texts.specs.InfoJson.{after_comma}
 use Rattle.plug_info.specs.InfoRule.{scene_of, service_object}
-use Rattle.plug_info.specs.Tracked.{Tracks}
+use Rattle.plug_info_state.specs.Tracked.{Tracks}
 use Rattle.plug_info.proofs.json.push_services.Given as goal
 
 abbrev pub invariant-loop-service : goal.invariant-loop-service

@@ -1,4 +1,4 @@
-use Rattle.std.proofs.Common.{◌≡◌, ap, ◌∙◌}
+use Rattle.std.proofs.Common.{◌≡◌, ◌++◌, List, ℕ, ap, ap₂, ◌∙◌}
 use Rattle.plug_info_texts.specs.InfoJson.{number_or_null, stream_json}
 use Rattle.plug_info.specs.InfoRule.{scene_of}
 use Rattle.plug_info_texts.specs.declared.scene.Scene.{Scene}
@@ -14,5 +14,6 @@ returns c = λ cells w.
     c.of.ensures
     ∙ (c.in_ok-text.ensures.ok
     ∙ whole_is _ _ _ _ _ _ _ _ _ _ (c.in_ok-stream.ensures ∙ ap stream_json numbers)
-    (c.in_ok-sdt.ensures ∙ ap number_or_null (c.widened.ensures ∙ c.sdt_stream_id.ensures cells w))
+    (c.in_ok-sdt-2.ensures.ok
+    ∙ ap₂ (λ (a b : List ℕ). a ++ b) (c.in_ok-sdt.ensures ∙ ap number_or_null (c.widened.ensures ∙ c.sdt_stream_id.ensures cells w)) (c.in_ok-names.ensures cells w))
     (c.in_ok-cas.ensures cells w) (c.in_ok-services.ensures cells w scene_is) (c.in_ok-pids.ensures cells w scene_is))

@@ -1,5 +1,5 @@
 use Rattle.std.proofs.Common.{◌≡◌, drop}
-use Rattle.plug_info.specs.SdtInForce.{body_with}
+use Rattle.plug_info_state.specs.SdtInForce.{body_with}
 use Rattle.plug_info.proofs.service_texts.body_with.Given as goal
 
 -- the result follows from the remaining descriptors

@@ -1,6 +1,6 @@
 use Rattle.std.proofs.Common.{◌≡◌, drop, map}
 use Rattle.ts_si.specs.SiTables.{service_item}
-use Rattle.plug_info.specs.SdtInForce.{described_in}
+use Rattle.plug_info_state.specs.SdtInForce.{described_in}
 use Rattle.plug_info.proofs.service_texts.described_in.Given as goal
 
 -- the result follows from the remaining services

@@ -3,7 +3,7 @@ use Rattle.ts_packet.specs.declared.cell.Cell.{Cell}
 use Rattle.ts_psi.specs.PsiTables.{component_item}
 use Rattle.plugin_trait.specs.PlacedLines.{placed_at}
 use Rattle.plug_info.specs.InfoRule.{component_line, scene_of}
-use Rattle.plug_info.specs.Tracked.{Tracks}
+use Rattle.plug_info_state.specs.Tracked.{Tracks}
 use Rattle.plug_info.proofs.summary.push_components.Given as goal
 
 abbrev pub invariant-loop-component : goal.invariant-loop-component

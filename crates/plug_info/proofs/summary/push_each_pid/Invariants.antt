@@ -5,7 +5,7 @@ use Rattle.ts_packet.specs.Cells.{live_packets}
 use Rattle.plugin_notes.specs.PidPackets.{numbers_below}
 use Rattle.plugin_trait.specs.PlacedLines.{placed_at}
 use Rattle.plug_info.specs.InfoRule.{pid_lines, scene_of}
-use Rattle.plug_info.specs.Tracked.{Tracks}
+use Rattle.plug_info_state.specs.Tracked.{Tracks}
 use Rattle.plug_info.specs.UsesOf.{AreUses}
 use Rattle.plug_info.proofs.summary.push_each_pid.Given as goal
 

@@ -5,7 +5,7 @@ use Rattle.ts_psi.specs.PatTables.{service_item}
 use Rattle.plugin_trait.specs.PlacedLines.{placed_at}
 use Rattle.plug_psi.specs.InForce.{service_in}
 use Rattle.plug_info.specs.InfoRule.{scene_of, service_lines}
-use Rattle.plug_info.specs.Tracked.{Tracks}
+use Rattle.plug_info_state.specs.Tracked.{Tracks}
 use Rattle.plug_info.proofs.summary.push_services.Given as goal
 
 abbrev pub invariant-loop-service : goal.invariant-loop-service

@@ -7,7 +7,7 @@ use Rattle.ts_packet.specs.Cells.{live_packets}
 use Rattle.ts_psi.specs.PsiTables.{pmt_held}
 use Rattle.plugin_notes.specs.PidPackets.{numbers_below, packets_on}
 use Rattle.plug_info.specs.InfoRule.{has_component}
-use Rattle.plug_info.specs.Tracked.{Tracks}
+use Rattle.plug_info_state.specs.Tracked.{Tracks}
 use Rattle.plug_info.proofs.summary.service_packets.Given as goal
 
 abbrev pub invariant-loop-pid : goal.invariant-loop-pid
