@@ -2,7 +2,7 @@
 use serde_json::Value;
 use std::alloc::AllocError;
 use ts_fields::{Field, Kind};
-use ts_pages::{layout_named, layout_of};
+use ts_shown_pages::{layout_named, layout_of};
 use ts_table_pages::{
     bat_layout, cat_layout, eit_layout, nit_layout, pat_layout, pmt_layout, sdt_layout,
 };
@@ -203,7 +203,7 @@ pub(crate) fn put_known_elements(text: &mut String, place: Place<'_>) -> Result<
 // Puts how a value of a field has to be written.
 fn put_kind(text: &mut String, row: &Field) -> Result<(), AllocError> {
     match row.kind {
-        Kind::Number(bits) => {
+        Kind::Number(bits) | Kind::Reserved(bits) | Kind::Zeros(bits) => {
             let most = 1u64.checked_shl(bits).unwrap_or(0).saturating_sub(1);
             let (least, most) = row.range.unwrap_or((0, most));
             write!(text, "a number from {least} to {most}")?;
@@ -218,7 +218,7 @@ fn put_kind(text: &mut String, row: &Field) -> Result<(), AllocError> {
         Kind::Duration => text.push_str("a text as \"01:45:00\""),
         Kind::Language => text.push_str("a text of three characters, as \"eng\""),
         Kind::CountedText | Kind::Text => text.push_str("a text"),
-        Kind::Hex => text.push_str("a text of two hexadecimal digits a byte"),
+        Kind::CountedHex | Kind::Hex => text.push_str("a text of two hexadecimal digits a byte"),
         Kind::Ones(_) | Kind::Free(_) => Ok(()),
     }
 }

@@ -33,6 +33,24 @@ static EACH_KIND: Layout = Layout {
         Kind::Text
     ],
     items: None,
+    counted: None,
+};
+
+/// Reserved bits that are read as any number, items after a length of 8 bits, data after theirs, and a byte.
+static COUNTED: Layout = Layout {
+    tag: 2,
+    name: "counted",
+    head: rows![
+        Kind::Reserved(5),
+        Kind::Zeros(3),
+        Kind::CountedHex,
+        Kind::Number(8)
+    ],
+    items: Some(ItemLayout {
+        name: "item",
+        rows: rows![Kind::CountedText],
+    }),
+    counted: Some(2),
 };
 
 /// A number, and items of two bytes each.
@@ -44,6 +62,7 @@ static PAIRS: Layout = Layout {
         name: "pair",
         rows: rows![Kind::Number(4), Kind::Number(12)],
     }),
+    counted: None,
 };
 
 /// Five, ones, free bits, a set flag; 42; 93/10/13 12:45:00; 01:45:30; `eng`; `hi`; `to the end`.
@@ -92,4 +111,18 @@ fn items_are_read_and_written(rt: HostRuntime) {
     let row = [0x07, 0x12, 0x34, 0x56, 0x78];
     same(&rt, pairs(&rt, &row[..4]).err(), Some(NotRead::Outside));
     same_bytes(&rt, &got(&rt, pairs(&rt, &row)), &row);
+}
+
+/// What is written after reading items between fields.
+fn counted(rt: &(impl Abort + AllocGlobal), from: &[u8]) -> Result<Vec<u8>, NotRead>
+    requires { length from.now ≤ 4096 }
+{
+    again(rt.alloc(), &COUNTED, from)
+}
+
+#[test]
+fn items_between_fields_are_read_and_written(rt: HostRuntime) {
+    let row = [0xC9, 0x03, b'a', 0x00, 0x02, b'b', b'c', 0x02, 0xCA, 0xFE, 0x07];
+    same_bytes(&rt, &got(&rt, counted(&rt, &row)), &row);
+    same(&rt, counted(&rt, &row[..10]).err(), Some(NotRead::Outside));
 }

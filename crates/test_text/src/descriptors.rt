@@ -11,8 +11,8 @@ use ts_jtree::{JsonFault, JsonKind, ReadRefusal};
 /// A tag, a body of at most 255 bytes, and their text.
 type ShownRow = (u8, &'static [u8], &'static str);
 
-/// Descriptors and their texts. The first two are read again.
-static SHOWN: [ShownRow; 5] = [
+/// Descriptors and their texts. All are read again.
+static SHOWN: [ShownRow; 7] = [
     // 346 MHz, 64-QAM, 6.875 Mbaud
     (
         0x44,
@@ -44,12 +44,23 @@ static SHOWN: [ShownRow; 5] = [
     (
         0x09,
         &[0x18, 0x00, 0x01, 0x00],
-        r##"{"#name":"generic_descriptor","data":"18000100","tag":9}"##,
+        r##"{"#name":"CA_descriptor","CA_PID":256,"CA_system_id":6144,"private_data":"","reserved":0}"##,
+    ),
+    // a part of a long text, whose items have a length before them, and the same with a length that cuts an item
+    (
+        0x4E,
+        &[0x00, b'e', b'n', b'g', 0x04, 0x01, b'a', 0x01, b'b', 0x01, b'c'],
+        r##"{"#name":"extended_event_descriptor","#nodes":[{"#name":"item","item":"b","item_description":"a"}],"descriptor_number":0,"language_code":"eng","last_descriptor_number":0,"text":"c"}"##,
+    ),
+    (
+        0x4E,
+        &[0x00, b'e', b'n', b'g', 0x03, 0x01, b'a', 0x01, b'b', 0x01, b'c'],
+        r##"{"#name":"generic_descriptor","data":"00656e6703016101620163","tag":78}"##,
     ),
 ];
 
 /// The rows. The content of a `static` is written into each function that names it.
-fn shown_rows() -> &'static [ShownRow; 5] {
+fn shown_rows() -> &'static [ShownRow; 7] {
     &SHOWN
 }
 
@@ -86,8 +97,8 @@ fn descriptors_are_shown(rt: HostRuntime) {
 }
 
 #[test]
-fn a_cable_and_a_generic_one_are_read(rt: HostRuntime) {
-    for row in &shown_rows()[..2] {
+fn shown_descriptors_are_read(rt: HostRuntime) {
+    for row in shown_rows() {
         is_read(&rt, row);
     }
 }

@@ -7,7 +7,7 @@ use Rattle.std.proofs.Math.Nat.{mod-eq_of_lt}
 use Rattle.std.proofs.lemmas.Nat.{pow_pos}
 use Rattle.std.proofs.Math.Seq.{take-append_seam, drop-append_seam}
 use Rattle.ts_fields.specs.declared.field.Kind.{Kind}
-use Rattle.ts_fields.specs.declared.field.Kind.TheVariants.{Number, Ones, Free, Flag, Start, Duration, Decimal, Language, CountedText, Text, Hex}
+use Rattle.ts_fields.specs.declared.field.Kind.TheVariants.{Number, Reserved, Zeros, Ones, Free, Flag, Start, Duration, Decimal, Language, CountedText, CountedHex, Text, Hex}
 use Rattle.ts_fields.specs.Bits.{bits, bits_of}
 use Rattle.ts_fields.specs.Layout.{Row, Held, number, bytes}
 use Rattle.ts_fields.specs.Reading.{read_number, read_bytes, read_decimal, read_rest, read_field, read_rows, are_printable, is_printable}
@@ -84,6 +84,8 @@ printable_bytes (b ∷ bs) all =
 -- what reading keeps of the value of a field
 abbrev pub kept : Kind → Option Held → Option Held
 kept (Number count) value = value
+kept (Reserved count) value = value
+kept (Zeros count) value = value
 kept (Ones count) value = None
 kept (Free count) value = None
 kept Flag value = value
@@ -92,6 +94,7 @@ kept Duration value = value
 kept (Decimal digits) value = value
 kept Language value = value
 kept CountedText value = value
+kept CountedHex value = value
 kept Text value = value
 kept Hex value = value
 
@@ -100,8 +103,18 @@ field_again : (k : Kind) (value : Option Held) (rest : List Bool) → field_fits
     → read_field k (spell_field k value ++ rest) ≡ Some (kept k value, rest)
 unfolding read_field spell_field
 field_again (Number count) None rest fit end = cc
+field_again (Reserved count) None rest fit end = cc
+field_again (Zeros count) None rest fit end = cc
 field_again (Number count) (Some (bytes b)) rest fit end = cc
+field_again (Reserved count) (Some (bytes b)) rest fit end = cc
+field_again (Zeros count) (Some (bytes b)) rest fit end = cc
 field_again (Number count) (Some (number n)) rest fit end =
+    let small : n % 2 ^ count ≡ n = mod-eq_of_lt (ltb-true n (2 ^ count) fit) in
+    rw (number_again count n rest, small) refl
+field_again (Reserved count) (Some (number n)) rest fit end =
+    let small : n % 2 ^ count ≡ n = mod-eq_of_lt (ltb-true n (2 ^ count) fit) in
+    rw (number_again count n rest, small) refl
+field_again (Zeros count) (Some (number n)) rest fit end =
     let small : n % 2 ^ count ≡ n = mod-eq_of_lt (ltb-true n (2 ^ count) fit) in
     rw (number_again count n rest, small) refl
 field_again (Ones count) value rest fit end =
@@ -142,8 +155,14 @@ field_again Language (Some (bytes b)) rest fit end =
     let read = bytes_again b rest (printable_bytes b parts.1) in
     rw ((rw three at read), parts.1) refl
 field_again CountedText None rest fit end = cc
+field_again CountedHex None rest fit end = cc
 field_again CountedText (Some (number n)) rest fit end = cc
+field_again CountedHex (Some (number n)) rest fit end = cc
 field_again CountedText (Some (bytes b)) rest fit end =
+    let parts = both (nat_lt (length b) 256) (are_bytes b) fit in
+    let small : length b % 2 ^ 8 ≡ length b = omega (arith, ltb-true (length b) 256 parts.0) in
+    rw (append_assoc (bits 8 (length b)) (bits_of b) rest, number_again 8 (length b) (bits_of b ++ rest), small, bytes_again b rest parts.1) refl
+field_again CountedHex (Some (bytes b)) rest fit end =
     let parts = both (nat_lt (length b) 256) (are_bytes b) fit in
     let small : length b % 2 ^ 8 ≡ length b = omega (arith, ltb-true (length b) 256 parts.0) in
     rw (append_assoc (bits 8 (length b)) (bits_of b) rest, number_again 8 (length b) (bits_of b ++ rest), small, bytes_again b rest parts.1) refl
@@ -159,7 +178,11 @@ pub first_and_rest : (k : Kind) (values : List Held) → field_fits k (slice_get
     → option_to_list (kept k (slice_get values 0)) ++ drop (holds k) values ≡ values
 first_and_rest (Ones count) values fit = refl
 first_and_rest (Number count) [] fit = cc
+first_and_rest (Reserved count) [] fit = cc
+first_and_rest (Zeros count) [] fit = cc
 first_and_rest (Number count) (v ∷ vs) fit = refl
+first_and_rest (Reserved count) (v ∷ vs) fit = refl
+first_and_rest (Zeros count) (v ∷ vs) fit = refl
 first_and_rest (Free count) values fit = refl
 first_and_rest Flag [] fit = cc
 first_and_rest Flag (v ∷ vs) fit = refl
@@ -172,7 +195,9 @@ first_and_rest (Decimal digits) (v ∷ vs) fit = refl
 first_and_rest Language [] fit = cc
 first_and_rest Language (v ∷ vs) fit = refl
 first_and_rest CountedText [] fit = cc
+first_and_rest CountedHex [] fit = cc
 first_and_rest CountedText (v ∷ vs) fit = refl
+first_and_rest CountedHex (v ∷ vs) fit = refl
 first_and_rest Text [] fit = cc
 first_and_rest Text (v ∷ vs) fit = refl
 first_and_rest Hex [] fit = cc

@@ -7,7 +7,7 @@ use Rattle.ts_fields.specs.Reading.{read_rows, Fails, ◌>>=◌}
 use Rattle.ts_fields.specs.Spelling.{spell_rows}
 use Rattle.ts_fields.specs.Bodies.{items_exact, read_items, items_sound, all_fit, items_fit, spell_items, read_after}
 use Rattle.ts_fields.specs.Fitting.{fits}
-use Rattle.ts_fields.specs.SoundRows.{are_exact, widths, is_open}
+use Rattle.ts_fields.specs.SoundRows.{are_exact, leasts, is_open}
 use Rattle.std.proofs.lemmas.Option.{same_Some}
 use Rattle.std.specs.List.{flat_map}
 use Rattle.ts_fields.specs.declared.reader.NotRead.{NotRead}
@@ -15,7 +15,7 @@ use Rattle.ts_fields.specs.declared.reader.NotRead.TheVariants as stops
 use Rattle.ts_fields.proofs.ReadLemmas.{left_true, right_true}
 use Rattle.ts_fields.proofs.AgainLemmas.{both, rows_again}
 use Rattle.ts_fields.proofs.TakesLemmas.{rows_takes, rows_length, then_some}
-use Rattle.ts_fields.proofs.LengthLemmas.{takes_bits, length-rows}
+use Rattle.ts_fields.proofs.LengthLemmas.{takes_bits, least_rows}
 
 -- items before, and items that are read
 abbrev pub with_items : List (List Held) → Option (List (List Held)) → Option (List (List Held))
@@ -27,7 +27,7 @@ same_next None f g same = refl
 same_next (Some x) f g same = same x refl
 
 -- more turns than bits change nothing
-same_turns : (m n : ℕ) (rs : List Row) (from : List Bool) → nat_lt 0 (widths rs) ≡ true → length from ≤ m
+same_turns : (m n : ℕ) (rs : List Row) (from : List Bool) → nat_lt 0 (leasts rs) ≡ true → length from ≤ m
     → length from ≤ n → read_items m rs from ≡ read_items n rs from
 unfolding read_items
 same_turns m n rs [] some long wide = refl
@@ -44,7 +44,7 @@ items_more front values None = refl
 items_more front values (Some more) = ap Some (sym (append_assoc front (values ∷ []) more))
 
 pub items_go_on : (front : List (List Held)) (rs : List Row) (from : List Bool) (values : List Held) (after : List Bool) (whole : Option (List (List Held)))
-    → nat_lt 0 (widths rs) ≡ true → read_rows rs from ≡ Some (values, after)
+    → nat_lt 0 (leasts rs) ≡ true → read_rows rs from ≡ Some (values, after)
     → with_items front (read_items (length from) rs from) ≡ whole
     → with_items (front ++ values ∷ []) (read_items (length after) rs after) ≡ whole
 unfolding read_items
@@ -70,10 +70,10 @@ unfolding read_items
 items_done front rs [] whole none so_far = sym so_far ∙ ap Some (append-nil front)
 items_done front rs (b ∷ bs) whole none so_far = absurd (omega arith)
 
-pub item_takes : (rs : List Row) → IsTrue (items_sound (Some ([], rs))) → nat_lt 0 (widths rs) ≡ true
+pub item_takes : (rs : List Row) → IsTrue (items_sound (Some ([], rs))) → nat_lt 0 (leasts rs) ≡ true
 item_takes rs sound = right_true _ _ sound
 
-items_take : (most : ℕ) (rs : List Row) (from : List Bool) (items : List (List Held))
+pub items_take : (most : ℕ) (rs : List Row) (from : List Bool) (items : List (List Held))
     → are_exact rs ≡ true → read_items most rs from ≡ Some items
     → (from ≡ flat_map (spell_rows rs) items) × (all_fit rs items ≡ true)
 unfolding read_items
@@ -110,21 +110,21 @@ is_closed : (goes : Bool) (bs : List Bool) → IsTrue (not goes) → goes ≡ tr
 is_closed true bs closed is = cc
 is_closed false bs closed is = cc
 
-items_again : (most : ℕ) (rs : List Row) (items : List (List Held)) → all_fit rs items ≡ true
+pub items_again : (most : ℕ) (rs : List Row) (items : List (List Held)) → all_fit rs items ≡ true
     → IsTrue (items_sound (Some ([], rs))) → length (flat_map (spell_rows rs) items) ≤ most
     → read_items most rs (flat_map (spell_rows rs) items) ≡ Some items
 items_again most rs [] fit sound long = items_none most rs
 items_again most rs (item ∷ items) fit sound long =
     let parts = both (fits rs item) (all_fit rs items) fit in
-    let one = length-rows rs item parts.0 in
-    let some : 0 < widths rs = ltb-true 0 (widths rs) (item_takes rs sound) in
+    let one = least_rows rs item parts.0 in
+    let some : 0 < leasts rs = ltb-true 0 (leasts rs) (item_takes rs sound) in
     let sum = length-append (spell_rows rs item) (flat_map (spell_rows rs) items) in
     let closed : is_open rs ≡ true → flat_map (spell_rows rs) items ≡ [] = λ goes. is_closed (is_open rs) _ (right_true _ _ (left_true _ _ sound)) goes in
     let read = rows_again rs item (flat_map (spell_rows rs) items) parts.0 (right_true _ _ (left_true _ _ (left_true _ _ (left_true _ _ sound)))) closed in
-    let up : suc (most - 1) ≡ most = omega (arith, one.1) in
+    let up : suc (most - 1) ≡ most = omega (arith, one) in
     ap (λ k. read_items k rs (spell_rows rs item ++ flat_map (spell_rows rs) items)) (sym up)
-    ∙ items_first (most - 1) rs (spell_rows rs item ++ flat_map (spell_rows rs) items) item (flat_map (spell_rows rs) items) (omega (arith, one.1)) read
-    ∙ rw (items_again (most - 1) rs items parts.1 sound (omega (arith, one.1))) refl
+    ∙ items_first (most - 1) rs (spell_rows rs item ++ flat_map (spell_rows rs) items) item (flat_map (spell_rows rs) items) (omega (arith, one)) read
+    ∙ rw (items_again (most - 1) rs items parts.1 sound (omega (arith, one))) refl
 
 pub after_again : (i : Option (List ℕ × List Row)) (items : List (List Held)) → items_fit i items ≡ true
     → IsTrue (items_sound i) → read_after i (spell_items i items) ≡ Some items
@@ -140,7 +140,7 @@ nothing_after None (item ∷ items) goes fit sound is = cc
 nothing_after (Some i) items true fit sound is = cc
 nothing_after (Some i) items false fit sound is = cc
 
-items_read_fit : (most : ℕ) (rs : List Row) (from : List Bool) (items : List (List Held))
+pub items_read_fit : (most : ℕ) (rs : List Row) (from : List Bool) (items : List (List Held))
     → read_items most rs from ≡ Some items → all_fit rs items ≡ true
 unfolding read_items
 items_read_fit most rs [] items is = let none : [] ≡ items = same_Some _ _ is in rw (← none) refl

@@ -7,5 +7,7 @@ mod TakesLemmas
 mod SizeLemmas
 mod LengthLemmas
 mod ItemLemmas
+mod LoopLemmas
+mod LoopAgain
 mod BodyLemmas
 mod TextLemmas

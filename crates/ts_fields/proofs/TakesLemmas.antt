@@ -7,7 +7,7 @@ use Rattle.std.proofs.lemmas.Nat.{div-mul-add, pow-add}
 use Rattle.std.proofs.lemmas.List.{take-append-drop, length-take-le}
 use Rattle.std.proofs.lemmas.Option.{cond_some, same_Some}
 use Rattle.ts_fields.specs.declared.field.Kind.{Kind}
-use Rattle.ts_fields.specs.declared.field.Kind.TheVariants.{Number, Ones, Free, Flag, Start, Duration, Decimal, Language, CountedText, Text, Hex}
+use Rattle.ts_fields.specs.declared.field.Kind.TheVariants.{Number, Reserved, Zeros, Ones, Free, Flag, Start, Duration, Decimal, Language, CountedText, CountedHex, Text, Hex}
 use Rattle.ts_fields.specs.Bits.{bits, bits_of, number_of}
 use Rattle.ts_fields.specs.Layout.{Row, Held, number, bytes}
 use Rattle.ts_fields.specs.Reading.{read_number, read_bytes, read_decimal, read_rest, read_field, read_rows, are_printable, ◌>>=◌}
@@ -79,7 +79,7 @@ cond_some_by : {A : Type 0} (b : Bool) (x : Option A) (y : A) → (if b then x e
 cond_some_by true x y is = (refl, is)
 cond_some_by false x y is = cc
 
-empty : {A : Type 0} (xs : List A) → length xs ≡ 0 → xs ≡ []
+pub empty : {A : Type 0} (xs : List A) → length xs ≡ 0 → xs ≡ []
 empty [] is = refl
 empty (x ∷ xs) is = absurd (omega arith)
 
@@ -134,6 +134,18 @@ field_takes : (k : Kind) (from : List Bool) (value : Option Held) (rest : List B
     → (from ≡ spell_field k value ++ rest) × (field_fits k value ≡ true) × (kept k value ≡ value)
 unfolding read_field spell_field
 field_takes (Number count) from value rest exact is =
+    then_some (read_number count from) (λ x. Some (Some (number x.0), x.1)) (value, rest) is (λ x was joins.
+    let value_is : Some (number x.0) ≡ value = ap (λ y. y.0) (same_Some _ _ joins) in
+    let rest_is : x.1 ≡ rest = ap (λ y. y.1) (same_Some _ _ joins) in
+    let took = number_takes count from x.0 x.1 was in
+    rw (← value_is, ← rest_is) (took.0, lt-ltb x.0 (2 ^ count) took.1, refl))
+field_takes (Reserved count) from value rest exact is =
+    then_some (read_number count from) (λ x. Some (Some (number x.0), x.1)) (value, rest) is (λ x was joins.
+    let value_is : Some (number x.0) ≡ value = ap (λ y. y.0) (same_Some _ _ joins) in
+    let rest_is : x.1 ≡ rest = ap (λ y. y.1) (same_Some _ _ joins) in
+    let took = number_takes count from x.0 x.1 was in
+    rw (← value_is, ← rest_is) (took.0, lt-ltb x.0 (2 ^ count) took.1, refl))
+field_takes (Zeros count) from value rest exact is =
     then_some (read_number count from) (λ x. Some (Some (number x.0), x.1)) (value, rest) is (λ x was joins.
     let value_is : Some (number x.0) ≡ value = ap (λ y. y.0) (same_Some _ _ joins) in
     let rest_is : x.1 ≡ rest = ap (λ y. y.1) (same_Some _ _ joins) in
@@ -196,6 +208,19 @@ field_takes CountedText from value rest exact is =
       rw (small, took.2) refl,
       refl,
     )))
+field_takes CountedHex from value rest exact is =
+    then_some (read_number 8 from) _ (value, rest) is (λ count was more.
+    then_some (read_bytes count.0 count.1) (λ x. Some (Some (bytes x.0), x.1)) (value, rest) more (λ x had joins.
+    let value_is : Some (bytes x.0) ≡ value = ap (λ y. y.0) (same_Some _ _ joins) in
+    let rest_is : x.1 ≡ rest = ap (λ y. y.1) (same_Some _ _ joins) in
+    let one = number_takes 8 from count.0 count.1 was in
+    let took = bytes_takes count.0 count.1 x.0 x.1 had in
+    let small : nat_lt (length x.0) 256 ≡ true = lt-ltb (length x.0) 256 (rw took.1 one.1) in
+    rw (← value_is, ← rest_is) (
+      rw took.1 (one.0 ∙ ap (λ l. bits 8 count.0 ++ l) took.0 ∙ sym (append_assoc (bits 8 count.0) (bits_of x.0) x.1)),
+      rw (small, took.2) refl,
+      refl,
+    )))
 field_takes Text from value rest exact is =
     then_some (read_rest from) (λ x. Some (Some (bytes x.0), x.1)) (value, rest) is (λ x was joins.
     let value_is : Some (bytes x.0) ≡ value = ap (λ y. y.0) (same_Some _ _ joins) in
@@ -230,6 +255,8 @@ field_length (Free count) from value rest is =
     let same : length (bits count x.0) ≡ length (bits count (2 ^ count - 1)) = length-bits count x.0 ∙ sym (length-bits count (2 ^ count - 1)) in
     (sum ∙ rw (same, rest_is) refl, refl, value_is))
 field_length (Number count) from value rest is = exact_length (Number count) from value rest refl is
+field_length (Reserved count) from value rest is = exact_length (Reserved count) from value rest refl is
+field_length (Zeros count) from value rest is = exact_length (Zeros count) from value rest refl is
 field_length (Ones count) from value rest is = exact_length (Ones count) from value rest refl is
 field_length Flag from value rest is = exact_length Flag from value rest refl is
 field_length Start from value rest is = exact_length Start from value rest refl is
@@ -237,6 +264,7 @@ field_length Duration from value rest is = exact_length Duration from value rest
 field_length (Decimal digits) from value rest is = exact_length (Decimal digits) from value rest refl is
 field_length Language from value rest is = exact_length Language from value rest refl is
 field_length CountedText from value rest is = exact_length CountedText from value rest refl is
+field_length CountedHex from value rest is = exact_length CountedHex from value rest refl is
 field_length Text from value rest is = exact_length Text from value rest refl is
 field_length Hex from value rest is = exact_length Hex from value rest refl is
 
@@ -256,13 +284,19 @@ first_of Start (Some v) more fit keeps = (refl, fit, refl)
 first_of Duration None more fit keeps = cc
 first_of Duration (Some v) more fit keeps = (refl, fit, refl)
 first_of (Number count) None more fit keeps = cc
+first_of (Reserved count) None more fit keeps = cc
+first_of (Zeros count) None more fit keeps = cc
 first_of (Number count) (Some v) more fit keeps = (refl, fit, refl)
+first_of (Reserved count) (Some v) more fit keeps = (refl, fit, refl)
+first_of (Zeros count) (Some v) more fit keeps = (refl, fit, refl)
 first_of (Decimal digits) None more fit keeps = cc
 first_of (Decimal digits) (Some v) more fit keeps = (refl, fit, refl)
 first_of Language None more fit keeps = cc
 first_of Language (Some v) more fit keeps = (refl, fit, refl)
 first_of CountedText None more fit keeps = cc
+first_of CountedHex None more fit keeps = cc
 first_of CountedText (Some v) more fit keeps = (refl, fit, refl)
+first_of CountedHex (Some v) more fit keeps = (refl, fit, refl)
 first_of Text None more fit keeps = cc
 first_of Text (Some v) more fit keeps = (refl, fit, refl)
 first_of Hex None more fit keeps = cc

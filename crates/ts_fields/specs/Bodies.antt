@@ -1,23 +1,27 @@
--- Whole bodies: fields, and after them items up to the end.
--- ISO/IEC 13818-1, 2.6, and ETSI EN 300 468, 6.2: the loops of descriptors go on to the end of the body.
-use Rattle.std.specs.Prelude.{ℕ, suc, zero, ◌&&◌, ◌||◌, List, [], ◌∷◌, ◌++◌, length, map, Bool, true, false, nat_lt, not, is_none, Option, Some, None, option_map}
+-- Whole bodies: fields, and after them items up to the end, or items with their length in bytes between fields.
+-- ISO/IEC 13818-1, 2.6, and ETSI EN 300 468, 6.2: the loops of descriptors go on to the end of the body, or, as in 6.2.15,
+-- are as long as 8 bits before them say.
+use Rattle.std.specs.Prelude.{ℕ, suc, zero, ◌+◌, ◌/◌, ◌&&◌, ◌||◌, List, [], ◌∷◌, ◌++◌, length, map, take, drop, Bool, true, false, nat_eq, nat_lt, if◌then◌else◌, not, is_none, Option, Some, None, option_map}
 use Rattle.std.specs.List.{flat_map, list_all}
 use Rattle.ts_fields.specs.declared.layout.Layout.{Layout}
 use Rattle.ts_fields.specs.declared.layout.ItemLayout.{ItemLayout}
 use Rattle.ts_fields.specs.declared.layout.Body.{Body}
 use Rattle.ts_fields.specs.declared.layout.Item.{Item}
 use Rattle.ts_fields.specs.Layout.{Row, Held, rows_of, held}
-use Rattle.ts_fields.specs.Reading.{read_rows, ◌>>=◌}
-use Rattle.ts_fields.specs.Spelling.{spell_rows}
+use Rattle.ts_fields.specs.Bits.{bits, bits_of}
+use Rattle.ts_fields.specs.Reading.{Front, read_number, read_bytes, read_rows, ◌>>=◌}
+use Rattle.ts_fields.specs.Spelling.{spell_rows, holds}
 use Rattle.ts_fields.specs.Fitting.{fits, fits_uncounted, shaped}
-use Rattle.ts_fields.specs.SoundRows.{rows_sound, are_exact, is_open, widths}
+use Rattle.ts_fields.specs.SoundRows.{rows_sound, are_exact, is_open, leasts}
 
--- the page of a descriptor: its tag, its name, its rows, and where there are items their name and rows
+-- the page of a descriptor: its tag, its name, its rows, and where there are items their name and rows; and how many
+-- rows come before the items, where these have a length of 8 bits before them and the other rows after them
 pub record Page : Type 0 where
   pub tag : ℕ
   pub name : List ℕ
   pub head : List Row
   pub items : Option (List ℕ × List Row)
+  pub counted : Option ℕ
 
 -- the values of a body: those of the rows, and those of the rows of each item
 pub record Holding : Type 0 where
@@ -35,6 +39,7 @@ page l = record {
   name = l.name.now;
   head = rows_of l.head.now;
   items = option_map item_page l.items;
+  counted = l.counted;
 }
 
 -- the values of an item of the code
@@ -60,30 +65,92 @@ read_after None [] = Some []
 read_after None (b ∷ bs) = None
 read_after (Some i) from = read_items (length from) i.1 from
 
--- the values of a body; none where it is not of this page
-unfoldable pub read_page : Page → List Bool → Option Holding
-read_page p from = do
+-- items in as many bytes as a length of 8 bits before them says, and the bits after them
+unfoldable pub read_loop : List Row → List Bool → Front (List (List Held))
+read_loop rs from = do
+  count ← read_number 8 from
+  x ← read_bytes count.0 count.1
+  items ← read_items (length (bits_of x.0)) rs (bits_of x.0)
+  Some (items, x.1)
+
+-- the values of a body that is rows, such items and rows, with nothing after them
+abbrev pub read_around : List Row → List Row → List Row → List Bool → Option Holding
+read_around front rs back from = do
+  head ← read_rows front from
+  items ← read_loop rs head.1
+  tail ← read_rows back items.1
+  if nat_eq (length tail.1) 0 then Some (record { head = head.0 ++ tail.0; items = items.0 }) else None
+
+-- the values of a body whose items go to the end
+abbrev pub read_to_end : Page → List Bool → Option Holding
+read_to_end p from = do
   head ← read_rows p.head from
   items ← read_after p.items head.1
   Some (record { head = head.0; items = items })
+
+-- the rows of the items
+abbrev pub item_rows : Option (List ℕ × List Row) → List Row
+item_rows None = []
+item_rows (Some i) = i.1
+
+-- the same, where so many of the rows come before the items; none where the page has no items
+abbrev pub read_counted : ℕ → Option (List ℕ × List Row) → List Row → List Bool → Option Holding
+read_counted n None head from = None
+read_counted n (Some i) head from = read_around (take n head) i.1 (drop n head) from
+
+-- the values of a body by the place of its items
+abbrev pub read_by : Option ℕ → Page → List Bool → Option Holding
+read_by None p from = read_to_end p from
+read_by (Some n) p from = read_counted n p.items p.head from
+
+-- the values of a body; none where it is not of this page
+unfoldable pub read_page : Page → List Bool → Option Holding
+read_page p from = read_by p.counted p from
 
 -- the bits of some items
 abbrev pub spell_items : Option (List ℕ × List Row) → List (List Held) → List Bool
 spell_items None items = []
 spell_items (Some i) items = flat_map (spell_rows i.1) items
 
+-- the bits of items with their length in bytes before them
+abbrev pub spell_loop : List Row → List (List Held) → List Bool
+spell_loop rs items =
+    bits 8 (length (flat_map (spell_rows rs) items) / 8) ++ flat_map (spell_rows rs) items
+
+-- the number of values of some rows
+abbrev pub held_by : List Row → ℕ
+held_by [] = 0
+held_by (r ∷ rs) = holds r.kind + held_by rs
+
+-- the bits of a body with such items between its rows
+abbrev pub spell_around : List Row → List Row → List Row → Holding → List Bool
+spell_around front rs back h =
+    spell_rows front h.head ++ (spell_loop rs h.items ++ spell_rows back (drop (held_by front) h.head))
+
+-- the bits of a body by the place of its items
+abbrev pub spell_by : Option ℕ → Page → Holding → List Bool
+spell_by None p h = spell_rows p.head h.head ++ spell_items p.items h.items
+spell_by (Some n) p h = spell_around (take n p.head) (item_rows p.items) (drop n p.head) h
+
 -- the bits of a body with these values
 unfoldable pub spell_page : Page → Holding → List Bool
-spell_page p h = spell_rows p.head h.head ++ spell_items p.items h.items
+spell_page p h = spell_by p.counted p h
 
 -- rows of items that can be read and written: none goes to the end, and each item takes some bits
 abbrev pub items_sound : Option (List ℕ × List Row) → Bool
 items_sound None = true
-items_sound (Some i) = rows_sound i.1 && not (is_open i.1) && nat_lt 0 (widths i.1)
+items_sound (Some i) = rows_sound i.1 && not (is_open i.1) && nat_lt 0 (leasts i.1)
 
--- a page that can be read and written: no items follow what goes to the end
+-- the place of the items: no items follow what goes to the end; where they are counted, the rows before and after them
+-- are whole bytes
+abbrev pub place_sound : Option ℕ → Page → Bool
+place_sound None p = is_none p.items || not (is_open p.head)
+place_sound (Some n) p =
+    rows_sound (take n p.head) && (rows_sound (drop n p.head) && (not (is_open (take n p.head)) && not (is_none p.items)))
+
+-- a page that can be read and written
 abbrev pub page_sound : Page → Bool
-page_sound p = rows_sound p.head && items_sound p.items && (is_none p.items || not (is_open p.head))
+page_sound p = rows_sound p.head && items_sound p.items && place_sound p.counted p
 
 -- a page without reserved bits that are read as anything
 abbrev pub items_exact : Option (List ℕ × List Row) → Bool
@@ -106,7 +173,7 @@ items_fit (Some i) items = all_fit i.1 items
 abbrev pub page_fits : Page → Holding → Bool
 page_fits p h = fits p.head h.head && items_fit p.items h.items
 
--- the same, whatever the length of a counted text
+-- the same, whatever the length of counted texts and data
 abbrev pub items_fit_uncounted : Option (List ℕ × List Row) → List (List Held) → Bool
 items_fit_uncounted None [] = true
 items_fit_uncounted None (item ∷ items) = false

@@ -3,7 +3,7 @@
 use Rattle.std.specs.Prelude.{◌≡◌, ℕ, suc, zero, ◌+◌, ◌*◌, ◌/◌, ◌^◌, ◌&&◌, List, [], ◌∷◌, ◌++◌, length, take, drop, Bool, nat_eq, nat_le, if◌then◌else◌, Option, Some, None, option_to_list, Result, Ok, Err}
 use Rattle.std.specs.List.{list_all}
 use Rattle.ts_fields.specs.declared.field.Kind.{Kind}
-use Rattle.ts_fields.specs.declared.field.Kind.TheVariants.{Number, Ones, Free, Flag, Start, Duration, Decimal, Language, CountedText, Text, Hex}
+use Rattle.ts_fields.specs.declared.field.Kind.TheVariants.{Number, Reserved, Zeros, Ones, Free, Flag, Start, Duration, Decimal, Language, CountedText, CountedHex, Text, Hex}
 use Rattle.ts_fields.specs.declared.reader.NotRead.{NotRead}
 use Rattle.ts_fields.specs.declared.reader.NotRead.TheVariants as stops
 use Rattle.ts_fields.specs.Bits.{number_of}
@@ -71,6 +71,12 @@ unfoldable pub read_field : Kind → List Bool → Front (Option Held)
 read_field (Number count) from = do
   x ← read_number count from
   Some (Some (number x.0), x.1)
+read_field (Reserved count) from = do
+  x ← read_number count from
+  Some (Some (number x.0), x.1)
+read_field (Zeros count) from = do
+  x ← read_number count from
+  Some (Some (number x.0), x.1)
 read_field (Ones count) from = do
   x ← read_number count from
   if nat_eq (x.0 + 1) (2 ^ count) then Some (None, x.1) else None
@@ -93,6 +99,10 @@ read_field Language from = do
   x ← read_bytes 3 from
   if are_printable x.0 then Some (Some (bytes x.0), x.1) else None
 read_field CountedText from = do
+  count ← read_number 8 from
+  x ← read_bytes count.0 count.1
+  Some (Some (bytes x.0), x.1)
+read_field CountedHex from = do
   count ← read_number 8 from
   x ← read_bytes count.0 count.1
   Some (Some (bytes x.0), x.1)

@@ -3,12 +3,14 @@
 use Rattle.std.specs.Prelude.{ℕ, ◌+◌, ◌*◌, ◌%◌, ◌&&◌, ◌||◌, List, [], ◌∷◌, Bool, true, false, nat_eq, nat_le, nat_lt, if◌then◌else◌}
 use Rattle.std.specs.List.{list_all}
 use Rattle.ts_fields.specs.declared.field.Kind.{Kind}
-use Rattle.ts_fields.specs.declared.field.Kind.TheVariants.{Number, Ones, Free, Flag, Start, Duration, Decimal, Text, Hex}
+use Rattle.ts_fields.specs.declared.field.Kind.TheVariants.{Number, Reserved, Zeros, Ones, Free, Flag, Start, Duration, Decimal, Language, CountedText, CountedHex, Text, Hex}
 use Rattle.ts_fields.specs.Layout.{Row}
 
 -- numbers have at most 63 bits, or eight decimal digits
 abbrev pub is_sound : Kind → Bool
 is_sound (Number count) = nat_lt count 64
+is_sound (Reserved count) = nat_lt count 64
+is_sound (Zeros count) = nat_lt count 64
 is_sound (Ones count) = nat_lt count 64
 is_sound (Free count) = nat_lt count 64
 is_sound (Decimal digits) = nat_le digits 8
@@ -49,6 +51,8 @@ are_exact rs = list_all (λ r. is_exact r.kind) rs
 -- the number of bits of a field, without the bytes of texts and data, which are whole bytes
 abbrev pub width : Kind → ℕ
 width (Number count) = count
+width (Reserved count) = count
+width (Zeros count) = count
 width (Ones count) = count
 width (Free count) = count
 width Flag = 1
@@ -61,6 +65,18 @@ width _ = 0
 abbrev pub widths : List Row → ℕ
 widths [] = 0
 widths (r ∷ rs) = width r.kind + widths rs
+
+-- the least number of bits of a field
+abbrev pub least : Kind → ℕ
+least Language = 24
+least CountedText = 8
+least CountedHex = 8
+least kind = width kind
+
+-- the least number of bits of the fields of some rows
+abbrev pub leasts : List Row → ℕ
+leasts [] = 0
+leasts (r ∷ rs) = least r.kind + leasts rs
 
 -- rows that can be read and written: valid widths, whole bytes, and a field that goes to the end is the last
 abbrev pub rows_sound : List Row → Bool

@@ -1,9 +1,9 @@
 -- Writing fields, one after another.
 -- ISO/IEC 13818-1, 2.6, and ETSI EN 300 468, 6.2: fields follow one another without a gap.
--- This project's own rule: reserved bits are written as ones.
+-- This project's own rule: reserved bits without a value are written as ones.
 use Rattle.std.specs.Prelude.{ℕ, suc, zero, ◌-◌, ◌/◌, ◌%◌, ◌^◌, List, [], ◌∷◌, ◌++◌, length, drop, slice_get, Bool, Option, Some, None}
 use Rattle.ts_fields.specs.declared.field.Kind.{Kind}
-use Rattle.ts_fields.specs.declared.field.Kind.TheVariants.{Number, Ones, Free, Flag, Start, Duration, Decimal, Language, CountedText, Text, Hex}
+use Rattle.ts_fields.specs.declared.field.Kind.TheVariants.{Number, Reserved, Zeros, Ones, Free, Flag, Start, Duration, Decimal, Language, CountedText, CountedHex, Text, Hex}
 use Rattle.ts_fields.specs.Bits.{bits, bits_of}
 use Rattle.ts_fields.specs.Layout.{Row, Held, number, bytes}
 
@@ -27,6 +27,8 @@ on_bytes (Some (bytes b)) spell = spell b
 -- the bits of a field with this value
 unfoldable pub spell_field : Kind → Option Held → List Bool
 spell_field (Number count) value = on_number value (bits count)
+spell_field (Reserved count) value = on_number value (bits count)
+spell_field (Zeros count) value = on_number value (bits count)
 spell_field (Ones count) value = bits count (2 ^ count - 1)
 spell_field (Free count) value = bits count (2 ^ count - 1)
 spell_field Flag value = on_number value (bits 1)
@@ -35,10 +37,11 @@ spell_field Start value = on_number value (bits 40)
 spell_field Duration value = on_number value (bits 24)
 spell_field Language value = on_bytes value bits_of
 spell_field CountedText value = on_bytes value (λ b. bits 8 (length b) ++ bits_of b)
+spell_field CountedHex value = on_bytes value (λ b. bits 8 (length b) ++ bits_of b)
 spell_field Text value = on_bytes value bits_of
 spell_field Hex value = on_bytes value bits_of
 
--- the number of values of a field: reserved bits hold none
+-- the number of values of a field: reserved bits that must be ones, or may be anything, hold none
 abbrev pub holds : Kind → ℕ
 holds (Ones count) = 0
 holds (Free count) = 0

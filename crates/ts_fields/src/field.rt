@@ -12,6 +12,10 @@ pub enum Kind {
     Ones(u32),
     /// This many reserved bits, at most 63. Any bits are read; ones are written.
     Free(u32),
+    /// This many reserved bits, at most 63, which are ones in most streams: JSON shows them where they are not.
+    Reserved(u32),
+    /// This many reserved bits, at most 63, which are zeros in most streams: JSON shows them where they are not.
+    Zeros(u32),
     /// One bit, which JSON shows as `true` or `false`.
     Flag,
     /// A number of this many decimal digits, at most eight, of four bits each.
@@ -24,6 +28,8 @@ pub enum Kind {
     Language,
     /// A length of 8 bits, and this many bytes of text.
     CountedText,
+    /// A length of 8 bits, and this many bytes of data.
+    CountedHex,
     /// A text of whole bytes up to the end of the body.
     Text,
     /// Whole bytes up to the end of the body.
@@ -31,7 +37,7 @@ pub enum Kind {
 }
 
 impl Kind {
-    /// The number of values of a field of this kind: 0 for reserved bits, else 1.
+    /// The number of values of a field of this kind: 0 for reserved bits that JSON never shows, else 1.
     pub fn holds(self) -> usize
         ensures value { result ≡ holds self }
         ensures few { result ≤ 1 }
@@ -46,7 +52,7 @@ impl Kind {
 /// One row of a table of the standard.
 #[derive(Clone, Copy)]
 pub struct Field {
-    /// The standard's name of the field; empty for reserved bits.
+    /// The standard's name of the field; empty for reserved bits that JSON never shows.
     pub name: &'static str,
     /// How the field is coded.
     pub kind: Kind,

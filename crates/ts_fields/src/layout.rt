@@ -18,10 +18,13 @@ pub struct Layout {
     pub tag: u8,
     /// The name of the descriptor.
     pub name: &'static str,
-    /// The fields before the items, in their order.
+    /// The fields that are in no item, in their order.
     pub head: &'static [Field],
-    /// The items after these fields, up to the end of the body; `None` where nothing follows the fields.
+    /// The items; `None` where there are only fields.
     pub items: Option<ItemLayout>,
+    /// How many of the fields come before the items, where these have a length of 8 bits before them and the other
+    /// fields after them; `None` where the items follow all fields and go to the end of the body.
+    pub counted: Option<usize>,
 }
 
 /// The values of one item.

@@ -152,7 +152,7 @@ pub fn read_field<'a>(
     ensures { Gives (λ x. (option_map held x.0, x.1)) result (read_field kind from.entry) }
 {
     match kind {
-        Kind::Number(count) => {
+        Kind::Number(count) | Kind::Reserved(count) | Kind::Zeros(count) => {
             let (number, rest) = from.number(count).ok_or(NotRead::Outside)?;
             Ok((Some(FieldValue::Number(number)), rest))
         }
@@ -172,7 +172,7 @@ pub fn read_field<'a>(
         Kind::Start => read_start(from),
         Kind::Duration => read_duration(from),
         Kind::Language => read_language(alloc, from),
-        Kind::CountedText => {
+        Kind::CountedText | Kind::CountedHex => {
             let (count, rest) = from.number(8).ok_or(NotRead::Outside)?;
             let (bytes, rest) = rest.bytes(alloc, count as usize)?;
             Ok((Some(FieldValue::Bytes(bytes)), rest))

@@ -101,14 +101,17 @@ impl BitWriter {
     {
         match (kind, value) {
             (Kind::Ones(count) | Kind::Free(count), _) => self.put(count, (1 << count) - 1),
-            (Kind::Number(count), Some(FieldValue::Number(number))) => self.put(count, *number),
+            (
+                Kind::Number(count) | Kind::Reserved(count) | Kind::Zeros(count),
+                Some(FieldValue::Number(number)),
+            ) => self.put(count, *number),
             (Kind::Flag, Some(FieldValue::Number(number))) => self.put(1, *number),
             (Kind::Start, Some(FieldValue::Number(number))) => self.put(40, *number),
             (Kind::Duration, Some(FieldValue::Number(number))) => self.put(24, *number),
             (Kind::Decimal(digits), Some(FieldValue::Number(number))) => {
                 self.put_decimal(digits, *number)
             }
-            (Kind::CountedText, Some(FieldValue::Bytes(bytes))) => {
+            (Kind::CountedText | Kind::CountedHex, Some(FieldValue::Bytes(bytes))) => {
                 self.put(8, bytes.len() as u64)?;
                 self.put_bytes(bytes)
             }

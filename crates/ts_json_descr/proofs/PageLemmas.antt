@@ -1,5 +1,5 @@
 -- What every page of a descriptor has.
-use Rattle.std.proofs.Common.{◌≡◌, ℕ, Bool, true, false, List, [], ◌∷◌, refl, subst}
+use Rattle.std.proofs.Common.{◌≡◌, ℕ, Bool, true, false, List, [], ◌∷◌, map, refl, ap, subst}
 use Rattle.std.specs.Prelude.{◌&&◌, not, nat_eq, bytes_eq, is_none, drop, slice_get, if◌then◌else◌, Option, Some, None}
 use Rattle.std.specs.List.{find, list_all}
 use Rattle.std.proofs.lemmas.Bool.{eqb-true}
@@ -8,7 +8,7 @@ use Rattle.ts_fields.specs.Bodies.{Page, page_exact}
 use Rattle.ts_fields.specs.Layout as layout
 use Rattle.ts_fields.specs.Layout.{Row, Held}
 use Rattle.ts_fields.specs.Spelling.{holds}
-use Rattle.ts_pages.specs.Pages.{pages, page_of, page_named}
+use Rattle.ts_shown_pages.specs.Pages.{pages, page_of, page_named, second_quarter, third_quarter, last_quarter}
 use Rattle.ts_jtree.specs.Shown.{are_within, rows_show, value_within}
 use Rattle.ts_json_descr.specs.DescrElements.{generic_name}
 use Rattle.ts_json_descr.proofs.StepLemmas.{both, not_true}
@@ -44,6 +44,7 @@ abbrev is_good : Page → Bool
 is_good p = show_again p.head && (items_show p.items && (page_exact p && not (bytes_eq p.name generic_name)))
 
 all_good : list_all is_good pages ≡ true
+unfolding second_quarter third_quarter last_quarter
 all_good = refl
 
 -- each page is the one of its name
@@ -51,9 +52,15 @@ abbrev AllNamed : List Page → Type 0
 AllNamed [] = Unit {0}
 AllNamed (p ∷ ps) = (page_named p.name ≡ Some p) × AllNamed ps
 
+named_each : (ps : List Page) → map (λ p. page_named p.name) ps ≡ map (λ p. Some p) ps → AllNamed ps
+named_each [] is = tt
+named_each (p ∷ ps) is =
+    let first : Some (page_named p.name) ≡ Some (Some p) = ap (λ l. slice_get l 0) is in
+    (same_Some _ _ first, named_each ps (ap (drop 1) is))
+
 all_named : AllNamed pages
-all_named =
-    (refl, (refl, (refl, (refl, (refl, (refl, (refl, (refl, (refl, (refl, (refl, (refl, (refl, (refl, (refl, (refl, (refl, (refl, (refl, (refl, (refl, tt)))))))))))))))))))))
+unfolding second_quarter third_quarter last_quarter
+all_named = named_each pages refl
 
 pub record Good (tag : ℕ) (p : Page) : Type 0 where
   pub tagged : tag ≡ p.tag

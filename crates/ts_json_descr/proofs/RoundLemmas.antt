@@ -10,7 +10,7 @@ use Rattle.ts_fields.specs.Bits.{bits_of}
 use Rattle.ts_fields.specs.Bodies.{Page, Holding, all_fit, items_fit, page_exact, page_fits, read_page, spell_page}
 use Rattle.ts_fields.specs.Fitting.{are_bytes, fits}
 use Rattle.ts_fields.specs.Layout.{Row, Held, number, bytes}
-use Rattle.ts_pages.specs.Pages.{page_of}
+use Rattle.ts_shown_pages.specs.Pages.{page_of}
 use Rattle.ts_jtree.specs.Attributes.{read_attributes}
 use Rattle.ts_jtree.specs.Elements.{keys_known, name_of, nodes_at, nodes_key, nodes_of, no_children, read_element}
 use Rattle.ts_jtree.specs.Faults.{Reading, ◌>>=◌}

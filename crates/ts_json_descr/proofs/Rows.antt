@@ -4,8 +4,9 @@ use Rattle.std.specs.Prelude.{codes, Err}
 use Rattle.serde_json.specs.Data.{member, no_members, object, string}
 use Rattle.serde_json.specs.Written.{compact_text}
 use Rattle.ts_fields.specs.Bits.{bits, number_of}
-use Rattle.ts_fields.specs.Bodies.{read_page, read_after, read_items}
+use Rattle.ts_fields.specs.Bodies.{read_page, read_after, read_items, read_loop}
 use Rattle.ts_fields.specs.Reading.{read_number, read_bytes, read_decimal, read_rest, read_field, read_rows}
+use Rattle.ts_shown_pages.specs.Pages.{second_quarter, third_quarter, last_quarter}
 use Rattle.ts_jtree.specs.declared.fault.JsonKind.TheVariants.{Missing, UnknownKey}
 use Rattle.ts_jtree.specs.Attributes.{attribute_of, number_attribute, read_attributes}
 use Rattle.ts_jtree.specs.Elements.{keys_known, name_of}
@@ -17,28 +18,40 @@ use Rattle.ts_json_descr.specs.DescrReading.{descr_read, read_holding, read_type
 -- 346.0000 MHz, 64-QAM, 6.8750 Msymbol/s
 cable-row : compact_text (descr_shown (record { tag = 0x44; body = 0x03 ∷ 0x46 ∷ 0x00 ∷ 0x00 ∷ 0xFF ∷ 0xF2 ∷ 0x03 ∷ 0x00 ∷ 0x68 ∷ 0x75 ∷ 0x0F ∷ [] }))
     ≡ codes "{\"#name\":\"cable_delivery_system_descriptor\",\"FEC_inner\":15,\"FEC_outer\":2,\"frequency\":3460000,\"modulation\":3,\"symbol_rate\":68750}"
-unfolding bits number_of read_number read_bytes read_decimal read_rest read_field read_rows read_page read_after shown_on_literals
+unfolding bits number_of read_number read_bytes read_decimal read_rest read_field read_rows read_page read_after second_quarter third_quarter last_quarter shown_on_literals
 cable-row = refl
 
 -- the same with a digit ten, which is not a digit
 generic-row : compact_text (descr_shown (record { tag = 0x44; body = 0x03 ∷ 0x0A ∷ 0x00 ∷ 0x00 ∷ 0xFF ∷ 0xF2 ∷ 0x03 ∷ 0x00 ∷ 0x68 ∷ 0x75 ∷ 0x0F ∷ [] }))
     ≡ codes "{\"#name\":\"generic_descriptor\",\"data\":\"030a0000fff2030068750f\",\"tag\":68}"
-unfolding bits number_of read_number read_bytes read_decimal read_rest read_field read_rows read_page read_after shown_on_literals
+unfolding bits number_of read_number read_bytes read_decimal read_rest read_field read_rows read_page read_after second_quarter third_quarter last_quarter shown_on_literals
 generic-row = refl
 
 -- one item of subtitles
 subtitling-row : compact_text (descr_shown (record { tag = 0x59; body = 0x66 ∷ 0x72 ∷ 0x61 ∷ 0x10 ∷ 0x00 ∷ 0x01 ∷ 0x00 ∷ 0x02 ∷ [] }))
     ≡ codes "{\"#name\":\"subtitling_descriptor\",\"#nodes\":[{\"#name\":\"subtitling\",\"ancillary_page_id\":2,\"composition_page_id\":1,\"language_code\":\"fra\",\"subtitling_type\":16}]}"
-unfolding bits number_of read_number read_bytes read_decimal read_rest read_field read_rows read_page read_after read_items shown_on_literals
+unfolding bits number_of read_number read_bytes read_decimal read_rest read_field read_rows read_page read_after read_items second_quarter third_quarter last_quarter shown_on_literals
 subtitling-row = refl
 
 -- a name that no descriptor has
 name-row : descr_read (object (member (codes "#name") (string (codes "cable")) no_members)) ≡ Err (fault_of (codes "#name") UnknownKey)
-unfolding descr_read name_of
+unfolding descr_read name_of second_quarter third_quarter last_quarter
 name-row = refl
 
 -- the first missing attribute, in the order of the rows and not of the keys
 missing-row : descr_read (object (member (codes "#name") (string (codes "cable_delivery_system_descriptor")) no_members))
     ≡ Err (fault_of (codes "frequency") Missing)
-unfolding descr_read name_of read_typed read_holding keys_known read_attributes attribute_of number_attribute
+unfolding descr_read name_of read_typed read_holding keys_known read_attributes attribute_of number_attribute second_quarter third_quarter last_quarter
 missing-row = refl
+
+-- reserved bits that are ones have no attribute
+ones-row : compact_text (descr_shown (record { tag = 0x49; body = 0xFF ∷ 0x47 ∷ 0x42 ∷ 0x52 ∷ [] }))
+    ≡ codes "{\"#name\":\"country_availability_descriptor\",\"#nodes\":[{\"#name\":\"country\",\"country_code\":\"GBR\"}],\"country_availability\":true}"
+unfolding bits number_of read_number read_bytes read_decimal read_rest read_field read_rows read_page read_after read_items read_loop second_quarter third_quarter last_quarter shown_on_literals
+ones-row = refl
+
+-- others have
+zeros-row : compact_text (descr_shown (record { tag = 0x49; body = 0x80 ∷ 0x47 ∷ 0x42 ∷ 0x52 ∷ [] }))
+    ≡ codes "{\"#name\":\"country_availability_descriptor\",\"#nodes\":[{\"#name\":\"country\",\"country_code\":\"GBR\"}],\"country_availability\":true,\"reserved\":0}"
+unfolding bits number_of read_number read_bytes read_decimal read_rest read_field read_rows read_page read_after read_items read_loop second_quarter third_quarter last_quarter shown_on_literals
+zeros-row = refl

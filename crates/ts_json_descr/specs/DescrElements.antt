@@ -10,7 +10,7 @@ use Rattle.ts_fields.specs.Bits.{bits_of}
 use Rattle.ts_fields.specs.Bodies.{Page, Holding, read_page}
 use Rattle.ts_fields.specs.Layout.{Row, Held, number, bytes}
 use Rattle.ts_pages.specs.PageRows.{field}
-use Rattle.ts_pages.specs.Pages.{page_of}
+use Rattle.ts_shown_pages.specs.Pages.{page_of}
 use Rattle.ts_jtree.specs.Shown.{element_members}
 
 -- the element of an item
@@ -38,7 +38,7 @@ generic_rows =
 
 -- the page of such a descriptor, whose tag and body are both attributes
 abbrev pub generic_page : Page
-generic_page = record { tag = 0; name = generic_name; head = generic_rows; items = None }
+generic_page = record { tag = 0; name = generic_name; head = generic_rows; items = None; counted = None }
 
 -- the element of tag and bytes
 abbrev pub generic_shown : TaggedBody → Data

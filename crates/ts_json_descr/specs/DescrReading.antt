@@ -6,7 +6,7 @@ use Rattle.serde_json.specs.Data.{Data, Items, no_items, item, Members}
 use Rattle.ts_fields.specs.Bits.{bits_of}
 use Rattle.ts_fields.specs.Bodies.{Page, Holding, spell_page}
 use Rattle.ts_fields.specs.Layout.{Row, Held, number, bytes}
-use Rattle.ts_pages.specs.Pages.{page_named}
+use Rattle.ts_shown_pages.specs.Pages.{page_named}
 use Rattle.ts_jtree.specs.declared.fault.JsonKind.TheVariants.{UnknownKey, OutOfRange}
 use Rattle.ts_jtree.specs.Attributes.{read_attributes}
 use Rattle.ts_jtree.specs.Elements.{name_key, members_of, name_of, keys_known, nodes_of, no_children, read_element}

@@ -19,7 +19,7 @@ use ts_jtree::{
     JsonKind, ReadRefusal, at_child, check_keys, children, element_name, members, no_children,
     read_attributes, read_element, refuse_key, values_are_shaped,
 };
-use ts_pages::layout_named;
+use ts_shown_pages::layout_named;
 
 /// An item, which has no children itself.
 #[tactic(auto, unfolding(crate::specs::DescrReading::read_item))]

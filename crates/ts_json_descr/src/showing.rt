@@ -13,7 +13,7 @@ use std::alloc::{AllocError, Global};
 use ts_bits::Descriptor;
 use ts_fields::{Body, Field, FieldValue, Item, ItemLayout, Kind, Layout, NotRead, read_body};
 use ts_jtree::{element_json, fit_is_shown};
-use ts_pages::layout_of;
+use ts_shown_pages::layout_of;
 
 /// The layout of a descriptor without a page: tag and bytes.
 pub static GENERIC: Layout = Layout {
@@ -34,6 +34,7 @@ pub static GENERIC: Layout = Layout {
         },
     ],
     items: None,
+    counted: None,
 };
 
 /// The element that shows a descriptor: one with the name of its tag's page exactly where its body reads by that

@@ -7,7 +7,8 @@ use Rattle.ts_jtree.specs.Elements.{is_known}
 use Rattle.ts_jtree.specs.Shown.{are_within, rows_show}
 use Rattle.ts_fields.specs.Fitting.{fits}
 use Rattle.ts_fields.specs.Layout.{Row, Held, number, bytes}
-use Rattle.ts_pages.specs.Pages as descrs
+use Rattle.ts_shown_pages.specs.Pages as descrs
+use Rattle.ts_shown_pages.specs.Pages.{second_quarter, third_quarter, last_quarter}
 use Rattle.ts_json_descr.specs.DescrElements.{generic_name}
 use Rattle.ts_table_rows.specs.TablePages.{ItemPage, TablePage, has_id, page_sound}
 use Rattle.ts_table_pages.specs.PsiPages.{cat_page, entry_page, pat_page, pmt_page}
@@ -164,6 +165,7 @@ pub record Facts (p : TablePage) : Type 0 where
   pub free : p.one_zero ≡ false → ItemsBare p.items
 
 pat_facts : Facts pat_page
+unfolding second_quarter third_quarter last_quarter
 pat_facts = record {
   sound = refl;
   named = refl;
@@ -183,6 +185,7 @@ pat_facts = record {
 }
 
 cat_facts : Facts cat_page
+unfolding second_quarter third_quarter last_quarter
 cat_facts = record {
   sound = refl;
   named = refl;
@@ -202,6 +205,7 @@ cat_facts = record {
 }
 
 pmt_facts : Facts pmt_page
+unfolding second_quarter third_quarter last_quarter
 pmt_facts = record {
   sound = refl;
   named = refl;
@@ -221,6 +225,7 @@ pmt_facts = record {
 }
 
 nit_facts : Facts nit_page
+unfolding second_quarter third_quarter last_quarter
 nit_facts = record {
   sound = refl;
   named = refl;
@@ -240,6 +245,7 @@ nit_facts = record {
 }
 
 bat_facts : Facts bat_page
+unfolding second_quarter third_quarter last_quarter
 bat_facts = record {
   sound = refl;
   named = refl;
@@ -259,6 +265,7 @@ bat_facts = record {
 }
 
 sdt_facts : Facts sdt_page
+unfolding second_quarter third_quarter last_quarter
 sdt_facts = record {
   sound = refl;
   named = refl;
@@ -278,6 +285,7 @@ sdt_facts = record {
 }
 
 eit_facts : Facts eit_page
+unfolding second_quarter third_quarter last_quarter
 eit_facts = record {
   sound = refl;
   named = refl;

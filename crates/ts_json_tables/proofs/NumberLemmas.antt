@@ -5,7 +5,7 @@ use Rattle.std.proofs.lemmas.Bool.{leb-true, ltb-true}
 use Rattle.serde_json.specs.Data.{Data, Members}
 use Rattle.serde_json.specs.Find.{as_bool, as_str, get_member}
 use Rattle.ts_fields.specs.declared.field.Kind.{Kind}
-use Rattle.ts_fields.specs.declared.field.Kind.TheVariants.{Number, Ones, Free, Flag, Start, Duration, Decimal, Language, CountedText, Text, Hex}
+use Rattle.ts_fields.specs.declared.field.Kind.TheVariants.{Number, Ones, Free, Flag, Start, Duration, Decimal, Reserved, Zeros, Language, CountedText, Text, CountedHex, Hex}
 use Rattle.ts_fields.specs.Layout.{Row, Held, number}
 use Rattle.ts_fields.specs.SoundRows.{is_sound}
 use Rattle.ts_jtree.specs.declared.fault.JsonFault.{JsonFault}
@@ -91,10 +91,13 @@ kind_bound (Free c) name absent range ms v some below is = absurd (omega arith)
 kind_bound Start name absent range ms v some below is = absurd (omega arith)
 kind_bound Duration name absent range ms v some below is = absurd (omega arith)
 kind_bound (Decimal c) name absent range ms v some below is = absurd (omega arith)
+kind_bound (Reserved c) name absent range ms v some below is = absurd (omega arith)
+kind_bound (Zeros c) name absent range ms v some below is = absurd (omega arith)
 kind_bound Language name absent range ms v some below is = absurd (omega arith)
 kind_bound CountedText name absent range ms v some below is = absurd (omega arith)
 kind_bound Text name absent range ms v some below is = absurd (omega arith)
 kind_bound Hex name absent range ms v some below is = absurd (omega arith)
+kind_bound CountedHex name absent range ms v some below is = absurd (omega arith)
 
 -- the number is one that the row can hold
 pub number_bounded : (r : Row) (ms : Members) (n : ℕ) → is_number_row r ≡ true → read_number r ms ≡ Ok n

@@ -23,7 +23,8 @@ use Rattle.ts_jtree.specs.Faults.{Reading, at_child, or_refuse, refuse, ◌>>=�
 use Rattle.ts_json_descr.specs.DescrElements.{generic_name, generic_page, generic_rows}
 use Rattle.ts_json_descr.specs.DescrReading as descrs
 use Rattle.ts_json_descr.specs.DescrReading.{descr_read, read_generic, read_holding, read_typed, tagged}
-use Rattle.ts_pages.specs.Pages as descr_pages
+use Rattle.ts_shown_pages.specs.Pages as descr_pages
+use Rattle.ts_shown_pages.specs.Pages.{second_quarter, third_quarter, last_quarter}
 use Rattle.ts_table_rows.specs.BodySpelling.{bytes_of}
 use Rattle.ts_table_rows.specs.TablePages.{ItemPage, TablePage}
 use Rattle.ts_table_rows.specs.TableSections.{Thing, item_thing, items_in, own_thing, owns_in}
@@ -184,12 +185,17 @@ found_small test (q ∷ ps) p all found =
     by_test true found here later = subst (λ (x : Page). x.tag < 256) (same_Some q p found) here
     by_test false found here later = later found
 
+-- the tags of all pages are bytes
+tags_small : list_all (λ q. nat_lt q.tag 256) descr_pages.pages ≡ true
+unfolding second_quarter third_quarter last_quarter
+tags_small = refl
+
 typed_sized : (name : List ℕ) (p : Page) (ms : Members) (y : ℕ × List Bool) → descr_pages.page_named name ≡ Some p → read_typed p ms ≡ Ok y → IsSized y
 unfolding read_typed
 typed_sized name p ms y at is =
     then_ok (read_holding p ms) _ y is (λ h was later.
     sized_by (nat_lt 2040 (length (spell_page p h))) p.tag (spell_page p h) y refl
-    (found_small (λ q. bytes_eq name q.name) descr_pages.pages p refl at) later)
+    (found_small (λ q. bytes_eq name q.name) descr_pages.pages p tags_small at) later)
 
 -- the row of the bytes of a generic element
 abbrev generic_data : Row

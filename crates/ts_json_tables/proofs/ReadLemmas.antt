@@ -6,7 +6,7 @@ use Rattle.std.proofs.lemmas.Bool.{and_from, ltb-true, lt-ltb}
 use Rattle.serde_json.specs.Data.{Data, Items, no_items, item, Members}
 use Rattle.serde_json.specs.Find.{get_member}
 use Rattle.ts_fields.specs.declared.field.Kind.{Kind}
-use Rattle.ts_fields.specs.declared.field.Kind.TheVariants.{Number, Ones, Free, Flag, Start, Duration, Decimal, Language, CountedText, Text, Hex}
+use Rattle.ts_fields.specs.declared.field.Kind.TheVariants.{Number, Ones, Free, Flag, Start, Duration, Decimal, Reserved, Zeros, Language, CountedText, Text, CountedHex, Hex}
 use Rattle.ts_fields.specs.Fitting.{fits, field_fits}
 use Rattle.ts_fields.specs.Layout.{Row, Held, number, bytes}
 use Rattle.ts_fields.specs.Spelling.{holds}
@@ -115,10 +115,13 @@ kind_good Duration name absent range ms v plain is =
     (duration_good name ms n had, none_within range n plain)) is in
     inr (found.0, (found.1.0, (refl, found.1.1)))
 kind_good (Decimal c) name absent range ms v plain is = cc
+kind_good (Reserved c) name absent range ms v plain is = cc
+kind_good (Zeros c) name absent range ms v plain is = cc
 kind_good Language name absent range ms v plain is = cc
 kind_good CountedText name absent range ms v plain is = cc
 kind_good Text name absent range ms v plain is = cc
 kind_good Hex name absent range ms v plain is = cc
+kind_good CountedHex name absent range ms v plain is = cc
 
 none_range : (range : Option (ℕ × ℕ)) (w : Option Held) → is_none range ≡ true → value_within range w ≡ true
 none_range (Some x) w is = cc

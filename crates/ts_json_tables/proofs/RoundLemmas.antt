@@ -13,7 +13,7 @@ use Rattle.ts_jtree.specs.declared.fault.JsonKind.TheVariants.{UnknownKey}
 use Rattle.ts_jtree.specs.Elements.{members_of, name_key, name_of, nodes_at, nodes_of, no_children}
 use Rattle.ts_jtree.specs.Faults.{Reading, or_refuse, ◌>>=◌}
 use Rattle.ts_jtree.specs.Shown.{are_within, element_members, rows_show}
-use Rattle.ts_pages.specs.Pages as descrs
+use Rattle.ts_shown_pages.specs.Pages as descrs
 use Rattle.ts_json_descr.specs.DescrElements.{descr_shown, generic_name}
 use Rattle.ts_json_descr.specs.DescrReading.{descr_read, read_generic, read_typed}
 use Rattle.ts_table_rows.specs.TableFitting.{item_fits, items_fit, none_there}

@@ -4,7 +4,7 @@ use Rattle.std.specs.Prelude.{◌&&◌, Option, Some, None, Ok, Err, option_to_l
 use Rattle.std.specs.List.{list_all}
 use Rattle.serde_json.specs.Data.{Members}
 use Rattle.ts_fields.specs.declared.field.Kind.{Kind}
-use Rattle.ts_fields.specs.declared.field.Kind.TheVariants.{Number, Ones, Free, Flag, Start, Duration, Decimal, Language, CountedText, Text, Hex}
+use Rattle.ts_fields.specs.declared.field.Kind.TheVariants.{Number, Reserved, Zeros, Ones, Free, Flag, Start, Duration, Decimal, Language, CountedText, Text, CountedHex, Hex}
 use Rattle.ts_fields.specs.Fitting.{fits, field_fits}
 use Rattle.ts_fields.specs.Layout.{Row, Held, number, bytes}
 use Rattle.ts_fields.specs.Spelling.{holds}
@@ -30,6 +30,8 @@ attribute_count : (kind : Kind) (name : List ℕ) (absent : Option ℕ) (range :
     (v : Option Held) → attribute_of kind name absent range ms ≡ Ok v → length (option_to_list v) ≡ holds kind
 unfolding attribute_of
 attribute_count (Number n) name absent range ms v is = number_count _ v is
+attribute_count (Reserved n) name absent range ms v is = number_count _ v is
+attribute_count (Zeros n) name absent range ms v is = number_count _ v is
 attribute_count (Ones n) name absent range ms v is = none_count v is
 attribute_count (Free n) name absent range ms v is = none_count v is
 attribute_count Flag name absent range ms v is = number_count _ v is
@@ -40,6 +42,7 @@ attribute_count Language name absent range ms v is = bytes_count _ v is
 attribute_count CountedText name absent range ms v is = bytes_count _ v is
 attribute_count Text name absent range ms v is = bytes_count _ v is
 attribute_count Hex name absent range ms v is = bytes_count _ v is
+attribute_count CountedHex name absent range ms v is = bytes_count _ v is
 
 pub row_count : (r : Row) (ms : Members) (v : Option Held) → read_attribute r ms ≡ Ok v → length (option_to_list v) ≡ holds r.kind
 row_count r ms v is = attribute_count r.kind r.name r.absent r.range ms v is
@@ -91,6 +94,8 @@ split_read (r ∷ rs) b x y ms n is =
 -- reserved bits fit anything, and other fields need a value
 wants : (kind : Kind) → ((holds kind ≡ 0) × ((v : Option Held) → field_fits kind v ≡ true)) ⊎ ((holds kind ≡ 1) × (field_fits kind None ≡ false))
 wants (Number n) = inr (refl, refl)
+wants (Reserved n) = inr (refl, refl)
+wants (Zeros n) = inr (refl, refl)
 wants (Ones n) = inl (refl, λ v. refl)
 wants (Free n) = inl (refl, λ v. refl)
 wants Flag = inr (refl, refl)
@@ -101,6 +106,7 @@ wants Language = inr (refl, refl)
 wants CountedText = inr (refl, refl)
 wants Text = inr (refl, refl)
 wants Hex = inr (refl, refl)
+wants CountedHex = inr (refl, refl)
 
 fits_by : (n : ℕ) (kind : Kind) (rs b : List Row) (x y : List Held)
     → ((n ≡ 0) × ((v : Option Held) → field_fits kind v ≡ true)) ⊎ ((n ≡ 1) × (field_fits kind None ≡ false))

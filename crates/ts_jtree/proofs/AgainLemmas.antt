@@ -1,7 +1,7 @@
 -- Attributes that are shown are read again.
-use Rattle.std.proofs.Common.{◌≡◌, ℕ, zero, suc, ◌+◌, ◌-◌, ◌^◌, ◌<◌, ◌≤◌, ◌⊎◌, inl, inr, Bool, true, false, List, [], ◌∷◌, ◌++◌, length, drop, refl, ap, ◌∙◌, arith, length-append}
-use Rattle.std.specs.Prelude.{nat_lt, nat_eq, ◌&&◌, ◌||◌, not, bytes_eq, Option, Some, None, Ok, option_to_list, slice_get, codes}
-use Rattle.std.proofs.lemmas.Bool.{ltb-true, le-leb}
+use Rattle.std.proofs.Common.{◌≡◌, ℕ, zero, suc, ◌+◌, ◌-◌, ◌^◌, ◌<◌, ◌≤◌, ◌⊎◌, inl, inr, Bool, true, false, List, [], ◌∷◌, ◌++◌, length, drop, refl, sym, ap, ◌∙◌, arith, length-append}
+use Rattle.std.specs.Prelude.{nat_lt, nat_eq, ◌&&◌, ◌||◌, not, bytes_eq, Option, Some, None, Ok, option_to_list, slice_get, codes, if◌then◌else◌}
+use Rattle.std.proofs.lemmas.Bool.{ltb-true, le-leb, eqb-true}
 use Rattle.std.proofs.lemmas.Slice.Eq.{bytes_eq-Decides}
 use Rattle.hex.specs.Hex.{encode_lower, IsBytes}
 use Rattle.hex.proofs.HexLemmas.{decode_of-encode_lower}
@@ -9,7 +9,7 @@ use Rattle.serde_json.specs.Data.{Data, Members, put, boolean, string, number, u
 use Rattle.serde_json.specs.Find.{get_member}
 use Rattle.serde_json.proofs.Views.{get_member-put, get_member-put_other}
 use Rattle.ts_fields.specs.declared.field.Kind.{Kind}
-use Rattle.ts_fields.specs.declared.field.Kind.TheVariants.{Number, Ones, Free, Flag, Start, Duration, Decimal, Language, CountedText, Text, Hex}
+use Rattle.ts_fields.specs.declared.field.Kind.TheVariants.{Number, Reserved, Zeros, Ones, Free, Flag, Start, Duration, Decimal, Language, CountedText, Text, CountedHex, Hex}
 use Rattle.ts_fields.specs.Fitting.{fits, field_fits, are_bytes}
 use Rattle.ts_fields.specs.Layout as layout
 use Rattle.ts_fields.specs.Layout.{Row, Held}
@@ -20,7 +20,7 @@ use Rattle.ts_fields.specs.Times.{is_start, is_time}
 use Rattle.ts_days.specs.TimeTexts.{start_of, start_text, time_of, time_text}
 use Rattle.ts_jtree.specs.Attributes.{attribute_of, data_attribute, duration_attribute, flag_attribute, hex_attribute, hex_key, language_attribute, number_attribute, number_in, read_attributes, start_attribute, text_at, text_attribute, within}
 use Rattle.ts_jtree.specs.Numbers.{number_of, bit_of, truth_bit}
-use Rattle.ts_jtree.specs.Shown.{are_within, is_key, is_key_of, keys_differ, put_attribute, put_attributes, put_hex, put_text, put_text_of, value_within}
+use Rattle.ts_jtree.specs.Shown.{are_ones, are_within, is_key, is_key_of, keys_differ, put_attribute, put_attributes, put_hex, put_text, put_text_of, value_within}
 use Rattle.ts_jtree.proofs.RowLemmas.{both, neither, not_true, second_true}
 
 pub differ : (q k : List ℕ) → bytes_eq q k ≡ false → q ≡ k → ⊥
@@ -52,6 +52,11 @@ one_kept : (key name : List ℕ) (value : Data) (ms : Members) → bytes_eq key 
     → get_member key (put name value ms) ≡ get_member key ms
 one_kept key name value ms other = get_member-put_other key name value ms (differ key name other)
 
+unless_kept : (test : Bool) (key name : List ℕ) (value : Data) (ms : Members) → bytes_eq key name ≡ false
+    → get_member key (if test then ms else put name value ms) ≡ get_member key ms
+unless_kept true key name value ms other = refl
+unless_kept false key name value ms other = one_kept key name value ms other
+
 pub others_kept : (k : Kind) (name : List ℕ) (value : Option Held) (ms : Members) (key : List ℕ)
     → is_key_of k name key ≡ false → get_member key (put_attribute k name value ms) ≡ get_member key ms
 unfolding put_attribute
@@ -60,6 +65,12 @@ others_kept (Free count) name value ms key other = refl
 others_kept (Number count) name None ms key other = refl
 others_kept (Number count) name (Some (layout.number n)) ms key other = one_kept key name _ ms other
 others_kept (Number count) name (Some (layout.bytes b)) ms key other = refl
+others_kept (Reserved count) name None ms key other = refl
+others_kept (Zeros count) name None ms key other = refl
+others_kept (Reserved count) name (Some (layout.number n)) ms key other = unless_kept (are_ones count n) key name _ ms other
+others_kept (Zeros count) name (Some (layout.number n)) ms key other = unless_kept (nat_eq n 0) key name _ ms other
+others_kept (Reserved count) name (Some (layout.bytes b)) ms key other = refl
+others_kept (Zeros count) name (Some (layout.bytes b)) ms key other = refl
 others_kept Flag name None ms key other = refl
 others_kept Flag name (Some (layout.number n)) ms key other = one_kept key name _ ms other
 others_kept Flag name (Some (layout.bytes b)) ms key other = refl
@@ -82,8 +93,11 @@ others_kept Text name None ms key other = refl
 others_kept Text name (Some (layout.number n)) ms key other = refl
 others_kept Text name (Some (layout.bytes b)) ms key other = text_kept name b ms key other
 others_kept Hex name None ms key other = refl
+others_kept CountedHex name None ms key other = refl
 others_kept Hex name (Some (layout.number n)) ms key other = refl
+others_kept CountedHex name (Some (layout.number n)) ms key other = refl
 others_kept Hex name (Some (layout.bytes b)) ms key other = one_kept key name _ ms other
+others_kept CountedHex name (Some (layout.bytes b)) ms key other = one_kept key name _ ms other
 
 pub rows_kept : (rs : List Row) (values : List Held) (ms : Members) (key : List ℕ) → is_key rs key ≡ false
     → get_member key (put_attributes rs values ms) ≡ get_member key ms
@@ -112,6 +126,20 @@ unfolding number_attribute number_in number_of
 number_read absent range key n widest final ms small inside same =
     let found = same ∙ get_member-put key (number (unsigned n)) ms in
     rw (found, le-leb n widest small, inside) refl
+
+ones_are : (count n : ℕ) → are_ones count n ≡ true → n ≡ 2 ^ count - 1
+ones_are count n is = eqb-true n (2 ^ count - 1) (both (nat_lt count 64) (nat_eq n (2 ^ count - 1)) is).1
+
+-- the usual number is read where the key is absent
+reserved_read : (test : Bool) (range : Option (ℕ × ℕ)) (key : List ℕ) (n usual widest : ℕ) (final ms : Members)
+    → (test ≡ true → n ≡ usual) → n ≤ widest → within range n ≡ true → get_member key ms ≡ None
+    → SameAt key final (if test then ms else put key (number (unsigned n)) ms)
+    → number_attribute (Some usual) range widest key final ≡ Ok n
+unfolding number_attribute
+reserved_read true range key n usual widest final ms told small inside none same =
+    let absent = same ∙ none in rw absent (ap Ok (sym (told refl)))
+reserved_read false range key n usual widest final ms told small inside none same =
+    number_read (Some usual) range key n widest final ms small inside same
 
 bit_again : (n : ℕ) → n < 2 → truth_bit (nat_eq n 1) ≡ n
 bit_again zero small = refl
@@ -196,6 +224,10 @@ first_and_rest (Ones count) values fit = refl
 first_and_rest (Free count) values fit = refl
 first_and_rest (Number count) [] fit = cc
 first_and_rest (Number count) (v ∷ vs) fit = refl
+first_and_rest (Reserved count) [] fit = cc
+first_and_rest (Zeros count) [] fit = cc
+first_and_rest (Reserved count) (v ∷ vs) fit = refl
+first_and_rest (Zeros count) (v ∷ vs) fit = refl
 first_and_rest Flag [] fit = cc
 first_and_rest Flag (v ∷ vs) fit = refl
 first_and_rest Start [] fit = cc
@@ -211,7 +243,9 @@ first_and_rest CountedText (v ∷ vs) fit = refl
 first_and_rest Text [] fit = cc
 first_and_rest Text (v ∷ vs) fit = refl
 first_and_rest Hex [] fit = cc
+first_and_rest CountedHex [] fit = cc
 first_and_rest Hex (v ∷ vs) fit = refl
+first_and_rest CountedHex (v ∷ vs) fit = refl
 
 -- the attribute of a field is read again from members that end with what it put
 attribute_again : Laws → (k : Kind) (name : List ℕ) (absent : Option ℕ) (range : Option (ℕ × ℕ))
@@ -227,6 +261,16 @@ attribute_again laws (Number count) name absent range (Some (layout.bytes b)) fi
 attribute_again laws (Number count) name absent range (Some (layout.number n)) final ms fit inside none same hex =
     let small : n ≤ 2 ^ count - 1 = omega (arith, ltb-true n (2 ^ count) fit) in
     rw (number_read absent range name n (2 ^ count - 1) final ms small inside same) refl
+attribute_again laws (Reserved count) name absent range None final ms fit inside none same hex = cc
+attribute_again laws (Zeros count) name absent range None final ms fit inside none same hex = cc
+attribute_again laws (Reserved count) name absent range (Some (layout.bytes b)) final ms fit inside none same hex = cc
+attribute_again laws (Zeros count) name absent range (Some (layout.bytes b)) final ms fit inside none same hex = cc
+attribute_again laws (Reserved count) name absent range (Some (layout.number n)) final ms fit inside none same hex =
+    let small : n ≤ 2 ^ count - 1 = omega (arith, ltb-true n (2 ^ count) fit) in
+    rw (reserved_read (are_ones count n) range name n (2 ^ count - 1) (2 ^ count - 1) final ms (ones_are count n) small inside (none (self_key name)) same) refl
+attribute_again laws (Zeros count) name absent range (Some (layout.number n)) final ms fit inside none same hex =
+    let small : n ≤ 2 ^ count - 1 = omega (arith, ltb-true n (2 ^ count) fit) in
+    rw (reserved_read (nat_eq n 0) range name n 0 (2 ^ count - 1) final ms (eqb-true n 0) small inside (none (self_key name)) same) refl
 attribute_again laws Flag name absent range None final ms fit inside none same hex = cc
 attribute_again laws Flag name absent range (Some (layout.bytes b)) final ms fit inside none same hex = cc
 attribute_again laws Flag name absent range (Some (layout.number n)) final ms fit inside none same hex =
@@ -260,9 +304,14 @@ attribute_again laws Text name absent range (Some (layout.number n)) final ms fi
 attribute_again laws Text name absent range (Some (layout.bytes b)) final ms fit inside none same hex =
     rw (text_read laws.texts name b final ms fit (none (rw (self_key name) refl)) same hex) refl
 attribute_again laws Hex name absent range None final ms fit inside none same hex = cc
+attribute_again laws CountedHex name absent range None final ms fit inside none same hex = cc
 attribute_again laws Hex name absent range (Some (layout.number n)) final ms fit inside none same hex = cc
+attribute_again laws CountedHex name absent range (Some (layout.number n)) final ms fit inside none same hex = cc
 attribute_again laws Hex name absent range (Some (layout.bytes b)) final ms fit inside none same hex =
     rw (data_read range name b final ms fit inside same) refl
+attribute_again laws CountedHex name absent range (Some (layout.bytes b)) final ms fit inside none same hex =
+    let bytes = (both (nat_lt (length b) 256) (are_bytes b) fit).1 in
+    rw (data_read range name b final ms bytes inside same) refl
 
 -- ---- all attributes
 
@@ -277,12 +326,15 @@ own_key (Free count) name key is = cc
 own_key CountedText name key is = one_of (bytes_eq key name) (bytes_eq key (hex_key name)) refl refl is
 own_key Text name key is = one_of (bytes_eq key name) (bytes_eq key (hex_key name)) refl refl is
 own_key (Number count) name key is = inl ((bytes_eq-Decides key name).0 is)
+own_key (Reserved count) name key is = inl ((bytes_eq-Decides key name).0 is)
+own_key (Zeros count) name key is = inl ((bytes_eq-Decides key name).0 is)
 own_key Flag name key is = inl ((bytes_eq-Decides key name).0 is)
 own_key Start name key is = inl ((bytes_eq-Decides key name).0 is)
 own_key Duration name key is = inl ((bytes_eq-Decides key name).0 is)
 own_key (Decimal digits) name key is = inl ((bytes_eq-Decides key name).0 is)
 own_key Language name key is = inl ((bytes_eq-Decides key name).0 is)
 own_key Hex name key is = inl ((bytes_eq-Decides key name).0 is)
+own_key CountedHex name key is = inl ((bytes_eq-Decides key name).0 is)
 
 -- a later row's key differs from those of an earlier row
 pub later_key : (r : Row) (rs : List Row) (key : List ℕ) (own : Bool) → is_key_of r.kind r.name key ≡ own

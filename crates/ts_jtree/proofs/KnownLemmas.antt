@@ -1,6 +1,6 @@
 -- An element that is shown has its name, only known keys, its values and its children.
 use Rattle.std.proofs.Common.{◌≡◌, ℕ, Bool, true, false, List, [], ◌∷◌, drop, refl, ap, ◌∙◌, Ordering, Less, Equal, Greater}
-use Rattle.std.specs.Prelude.{Option, Some, None, Ok, Err, slice_get, bytes_eq, not, ◌&&◌, if◌then◌else◌}
+use Rattle.std.specs.Prelude.{nat_eq, Option, Some, None, Ok, Err, slice_get, bytes_eq, not, ◌&&◌, if◌then◌else◌}
 use Rattle.std.specs.Ordering.{nat_cmp, match_ordering}
 use Rattle.std.specs.Cmp.Lexicographic.{slice_cmp}
 use Rattle.hex.specs.Hex.{encode_lower}
@@ -8,7 +8,7 @@ use Rattle.serde_json.specs.Data.{Data, string, Members, no_members, member, put
 use Rattle.serde_json.specs.Find.{get_member}
 use Rattle.serde_json.proofs.Views.{get_member-put, get_member-put_other}
 use Rattle.ts_fields.specs.declared.field.Kind.{Kind}
-use Rattle.ts_fields.specs.declared.field.Kind.TheVariants.{Number, Ones, Free, Flag, Start, Duration, Decimal, Language, CountedText, Text, Hex}
+use Rattle.ts_fields.specs.declared.field.Kind.TheVariants.{Number, Reserved, Zeros, Ones, Free, Flag, Start, Duration, Decimal, Language, CountedText, Text, CountedHex, Hex}
 use Rattle.ts_fields.specs.Layout as layout
 use Rattle.ts_fields.specs.Layout.{Row, Held}
 use Rattle.ts_fields.specs.Spelling.{holds}
@@ -17,7 +17,7 @@ use Rattle.ts_jtree.specs.declared.fault.JsonFault.{JsonFault}
 use Rattle.ts_jtree.specs.Attributes.{hex_key}
 use Rattle.ts_jtree.specs.Elements.{is_known, keys_known, name_key, name_of, names_field, names_some, names_text, nodes_key}
 use Rattle.ts_jtree.specs.Faults.{Reading}
-use Rattle.ts_jtree.specs.Shown.{element_base, element_members, is_key, is_key_of, keys_differ, put_attribute, put_attributes, put_text_of, rows_show}
+use Rattle.ts_jtree.specs.Shown.{are_ones, element_base, element_members, is_key, is_key_of, keys_differ, put_attribute, put_attributes, put_text_of, rows_show}
 use Rattle.ts_jtree.proofs.AgainLemmas.{apart_of, differ, later_key, longer, others_kept, rows_kept, self_key}
 use Rattle.ts_jtree.proofs.RowLemmas.{both, first_true, not_true, second_true}
 
@@ -61,6 +61,11 @@ known_text None rs ms name b ns names none same so_far =
     let named : names_text name ms (hex_key name) ≡ true = second_true (bytes_eq (hex_key name) name) _ (rw (self_key (hex_key name), absent) refl) in
     known_put rs ms (hex_key name) (string (encode_lower b)) ns (names (hex_key name) named) so_far
 
+known_unless : (test : Bool) (rs : List Row) (ms : Members) (key : List ℕ) (v : Data) (ns : Members)
+    → is_known rs ms key ≡ true → keys_known rs ms ns ≡ Ok [] → keys_known rs ms (if test then ns else put key v ns) ≡ Ok []
+known_unless true rs ms key v ns known so_far = so_far
+known_unless false rs ms key v ns known so_far = known_put rs ms key v ns known so_far
+
 known_attribute : (rs : List Row) (ms : Members) (k : Kind) (name : List ℕ) (value : Option Held) (ns : Members)
     → Names rs ms k name → (is_key_of k name name ≡ true → get_member name ns ≡ None)
     → (is_key_of k name name ≡ true → get_member name ms ≡ get_member name (put_attribute k name value ns))
@@ -72,6 +77,14 @@ known_attribute rs ms (Number count) name None ns names none same so_far = so_fa
 known_attribute rs ms (Number count) name (Some (layout.number n)) ns names none same so_far =
     known_put rs ms name _ ns (names name (self_key name)) so_far
 known_attribute rs ms (Number count) name (Some (layout.bytes b)) ns names none same so_far = so_far
+known_attribute rs ms (Reserved count) name None ns names none same so_far = so_far
+known_attribute rs ms (Zeros count) name None ns names none same so_far = so_far
+known_attribute rs ms (Reserved count) name (Some (layout.number n)) ns names none same so_far =
+    known_unless (are_ones count n) rs ms name _ ns (names name (self_key name)) so_far
+known_attribute rs ms (Zeros count) name (Some (layout.number n)) ns names none same so_far =
+    known_unless (nat_eq n 0) rs ms name _ ns (names name (self_key name)) so_far
+known_attribute rs ms (Reserved count) name (Some (layout.bytes b)) ns names none same so_far = so_far
+known_attribute rs ms (Zeros count) name (Some (layout.bytes b)) ns names none same so_far = so_far
 known_attribute rs ms Flag name None ns names none same so_far = so_far
 known_attribute rs ms Flag name (Some (layout.number n)) ns names none same so_far =
     known_put rs ms name _ ns (names name (self_key name)) so_far
@@ -101,8 +114,12 @@ known_attribute rs ms Text name (Some (layout.number n)) ns names none same so_f
 known_attribute rs ms Text name (Some (layout.bytes b)) ns names none same so_far =
     known_text (text_of b) rs ms name b ns names (none (rw (self_key name) refl)) (same (rw (self_key name) refl)) so_far
 known_attribute rs ms Hex name None ns names none same so_far = so_far
+known_attribute rs ms CountedHex name None ns names none same so_far = so_far
 known_attribute rs ms Hex name (Some (layout.number n)) ns names none same so_far = so_far
+known_attribute rs ms CountedHex name (Some (layout.number n)) ns names none same so_far = so_far
 known_attribute rs ms Hex name (Some (layout.bytes b)) ns names none same so_far =
+    known_put rs ms name _ ns (names name (self_key name)) so_far
+known_attribute rs ms CountedHex name (Some (layout.bytes b)) ns names none same so_far =
     known_put rs ms name _ ns (names name (self_key name)) so_far
 
 -- the keys of all fields that are shown

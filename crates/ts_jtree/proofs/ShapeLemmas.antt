@@ -3,7 +3,7 @@ use Rattle.std.proofs.Common.{◌≡◌, ℕ, true, List, [], ◌∷◌, ◌++�
 use Rattle.std.specs.Prelude.{Option, Some, None, Ok, Err, slice_get, option_to_list}
 use Rattle.serde_json.specs.Data.{Members}
 use Rattle.ts_fields.specs.declared.field.Kind.{Kind}
-use Rattle.ts_fields.specs.declared.field.Kind.TheVariants.{Number, Ones, Free, Flag, Start, Duration, Decimal, Language, CountedText, Text, Hex}
+use Rattle.ts_fields.specs.declared.field.Kind.TheVariants.{Number, Reserved, Zeros, Ones, Free, Flag, Start, Duration, Decimal, Language, CountedText, Text, CountedHex, Hex}
 use Rattle.ts_fields.specs.Fitting.{field_shaped, is_number, shaped}
 use Rattle.ts_fields.specs.Layout.{Row, Held, number, bytes}
 use Rattle.ts_fields.specs.Spelling.{holds}
@@ -33,6 +33,8 @@ unfolding attribute_of
 attribute_sort (Ones count) key absent range ms value more is = none_sort value more is
 attribute_sort (Free count) key absent range ms value more is = none_sort value more is
 attribute_sort (Number count) key absent range ms value more is = number_sort _ value more is
+attribute_sort (Reserved count) key absent range ms value more is = number_sort _ value more is
+attribute_sort (Zeros count) key absent range ms value more is = number_sort _ value more is
 attribute_sort Flag key absent range ms value more is = number_sort _ value more is
 attribute_sort Start key absent range ms value more is = number_sort _ value more is
 attribute_sort Duration key absent range ms value more is = number_sort _ value more is
@@ -41,6 +43,7 @@ attribute_sort Language key absent range ms value more is = bytes_sort _ value m
 attribute_sort CountedText key absent range ms value more is = bytes_sort _ value more is
 attribute_sort Text key absent range ms value more is = bytes_sort _ value more is
 attribute_sort Hex key absent range ms value more is = bytes_sort _ value more is
+attribute_sort CountedHex key absent range ms value more is = bytes_sort _ value more is
 
 pub attributes_shaped : (rs : List Row) (ms : Members) (values : List Held) → read_attributes rs ms ≡ Ok values
     → shaped rs values ≡ true

@@ -7,7 +7,7 @@ use Rattle.serde_json.specs.Data.{Members}
 use Rattle.ts_fields.specs.declared.field.Field.{Field}
 use Rattle.ts_fields.specs.declared.field.FieldValue.{FieldValue}
 use Rattle.ts_fields.specs.declared.field.Kind.{Kind}
-use Rattle.ts_fields.specs.declared.field.Kind.TheVariants.{Number, Ones, Free, Flag, Start, Duration, Decimal, Language, CountedText, Text, Hex}
+use Rattle.ts_fields.specs.declared.field.Kind.TheVariants.{Number, Reserved, Zeros, Ones, Free, Flag, Start, Duration, Decimal, Language, CountedText, Text, CountedHex, Hex}
 use Rattle.ts_fields.specs.Fitting.{fits, field_fits}
 use Rattle.ts_fields.specs.Layout as layout
 use Rattle.ts_fields.specs.Layout.{Row, Held, held, row, rows_of}
@@ -73,6 +73,8 @@ field_shown Language None fit = refl
 field_shown Language (Some (layout.number n)) fit = refl
 field_shown Language (Some (layout.bytes b)) fit = (both _ (are_printable b) fit).1
 field_shown (Number count) value fit = refl
+field_shown (Reserved count) value fit = refl
+field_shown (Zeros count) value fit = refl
 field_shown (Ones count) value fit = refl
 field_shown (Free count) value fit = refl
 field_shown Flag value fit = refl
@@ -82,6 +84,7 @@ field_shown (Decimal digits) value fit = refl
 field_shown CountedText value fit = refl
 field_shown Text value fit = refl
 field_shown Hex value fit = refl
+field_shown CountedHex value fit = refl
 
 -- what fits its rows can be shown
 pub fit_shown : (rs : List Row) (values : List Held) → fits rs values ≡ true → are_shown rs values ≡ true
@@ -95,4 +98,6 @@ fit_shown (r ∷ rs) values fit =
 pub none_put : (kind : Kind) (name : List ℕ) (ms : Members) → put_attribute kind name None ms ≡ ms
 unfolding put_attribute
 none_put (Number count) name ms = refl
+none_put (Reserved count) name ms = refl
+none_put (Zeros count) name ms = refl
 none_put _ name ms = refl

@@ -6,7 +6,7 @@ use Rattle.hex.specs.Hex.{decode_of}
 use Rattle.serde_json.specs.Data.{Data, Members}
 use Rattle.serde_json.specs.Find.{get_member, as_str}
 use Rattle.ts_fields.specs.declared.field.Kind.{Kind}
-use Rattle.ts_fields.specs.declared.field.Kind.TheVariants.{Number, Ones, Free, Flag, Start, Duration, Decimal, Language, CountedText, Text, Hex}
+use Rattle.ts_fields.specs.declared.field.Kind.TheVariants.{Number, Reserved, Zeros, Ones, Free, Flag, Start, Duration, Decimal, Language, CountedText, Text, CountedHex, Hex}
 use Rattle.ts_fields.specs.Layout as rows
 use Rattle.ts_fields.specs.Layout.{Row, Held}
 use Rattle.ts_fields.specs.Reading.{are_printable}
@@ -122,6 +122,10 @@ holds_bytes read = read >>= λ b. Ok (Some (rows.bytes b))
 unfoldable pub attribute_of : Kind → List ℕ → Option ℕ → Option (ℕ × ℕ) → Members → Reading (Option Held)
 attribute_of (Number count) key absent range ms =
     holds_number (number_attribute absent range (2 ^ count - 1) key ms)
+attribute_of (Reserved count) key absent range ms =
+    holds_number (number_attribute (Some (2 ^ count - 1)) range (2 ^ count - 1) key ms)
+attribute_of (Zeros count) key absent range ms =
+    holds_number (number_attribute (Some 0) range (2 ^ count - 1) key ms)
 attribute_of (Ones count) key absent range ms = Ok None
 attribute_of (Free count) key absent range ms = Ok None
 attribute_of Flag key absent range ms = holds_number (flag_attribute absent key ms)
@@ -133,6 +137,7 @@ attribute_of Language key absent range ms = holds_bytes (language_attribute key 
 attribute_of CountedText key absent range ms = holds_bytes (text_attribute key ms)
 attribute_of Text key absent range ms = holds_bytes (text_attribute key ms)
 attribute_of Hex key absent range ms = holds_bytes (data_attribute range key ms)
+attribute_of CountedHex key absent range ms = holds_bytes (data_attribute range key ms)
 
 -- the value of the field of a row; none for reserved bits
 abbrev pub read_attribute : Row → Members → Reading (Option Held)

@@ -1,11 +1,12 @@
 -- How elements are written.
--- This project's own rule: every attribute is written, defaults too; numbers are numbers, flags Booleans,
--- bytes lower case hexadecimal digits, and a text that JSON cannot show is written only as its bytes.
-use Rattle.std.specs.Prelude.{ℕ, ◌&&◌, ◌||◌, List, [], ◌∷◌, drop, length, Bool, true, false, not, bytes_eq, nat_eq, slice_get, Option, Some, None}
+-- This project's own rule: every attribute is written, defaults too, but not reserved bits that are as usual; numbers
+-- are numbers, flags Booleans, bytes lower case hexadecimal digits, and a text that JSON cannot show is written only as
+-- its bytes.
+use Rattle.std.specs.Prelude.{ℕ, ◌-◌, ◌^◌, ◌&&◌, ◌||◌, nat_lt, if◌then◌else◌, List, [], ◌∷◌, drop, length, Bool, true, false, not, bytes_eq, nat_eq, slice_get, Option, Some, None}
 use Rattle.hex.specs.Hex.{encode_lower}
 use Rattle.serde_json.specs.Data.{Data, boolean, string, number, unsigned, Members, no_members, put}
 use Rattle.ts_fields.specs.declared.field.Kind.{Kind}
-use Rattle.ts_fields.specs.declared.field.Kind.TheVariants.{Number, Ones, Free, Flag, Start, Duration, Decimal, Language, CountedText, Text, Hex}
+use Rattle.ts_fields.specs.declared.field.Kind.TheVariants.{Number, Reserved, Zeros, Ones, Free, Flag, Start, Duration, Decimal, Language, CountedText, Text, CountedHex, Hex}
 use Rattle.ts_fields.specs.Layout as rows
 use Rattle.ts_fields.specs.Layout.{Row, Held}
 use Rattle.ts_fields.specs.Reading.{are_printable}
@@ -27,6 +28,16 @@ put_bytes None ms show = ms
 put_bytes (Some (rows.number n)) ms show = ms
 put_bytes (Some (rows.bytes b)) ms show = show b
 
+-- so many ones
+abbrev pub are_ones : ℕ → ℕ → Bool
+are_ones count n = nat_lt count 64 && nat_eq n (2 ^ count - 1)
+
+-- the members with the number of reserved bits; where they are as usual, as they are
+abbrev pub put_unless : (ℕ → Bool) → Option Held → List ℕ → Members → Members
+put_unless usual None key ms = ms
+put_unless usual (Some (rows.number n)) key ms = if usual n then ms else put key (number (unsigned n)) ms
+put_unless usual (Some (rows.bytes b)) key ms = ms
+
 -- bytes as hexadecimal digits
 abbrev pub put_hex : List ℕ → List ℕ → Members → Members
 put_hex key b ms = put key (string (encode_lower b)) ms
@@ -43,6 +54,8 @@ put_text key b ms = put_text_of (text_of b) key b ms
 -- the members with the attribute of a field of this kind and name; reserved bits have none
 unfoldable pub put_attribute : Kind → List ℕ → Option Held → Members → Members
 put_attribute (Number count) key value ms = put_number value key ms (λ n. number (unsigned n))
+put_attribute (Reserved count) key value ms = put_unless (are_ones count) value key ms
+put_attribute (Zeros count) key value ms = put_unless (λ n. nat_eq n 0) value key ms
 put_attribute (Ones count) key value ms = ms
 put_attribute (Free count) key value ms = ms
 put_attribute Flag key value ms = put_number value key ms (λ n. boolean (nat_eq n 1))
@@ -53,6 +66,7 @@ put_attribute Language key value ms = put_bytes value ms (λ b. put key (string 
 put_attribute CountedText key value ms = put_bytes value ms (λ b. put_text key b ms)
 put_attribute Text key value ms = put_bytes value ms (λ b. put_text key b ms)
 put_attribute Hex key value ms = put_bytes value ms (λ b. put_hex key b ms)
+put_attribute CountedHex key value ms = put_bytes value ms (λ b. put_hex key b ms)
 
 -- the members with the attributes of some rows that hold these values
 unfoldable pub put_attributes : List Row → List Held → Members → Members

@@ -1,6 +1,6 @@
 //! Reading the attributes of an element.
 
-ghost use Rattle.std.specs.Prelude.{◌≡◌, ◌++◌, ◌-◌, ◌^◌, ◌<◌, map, option_map, option_to_list, IfOk, OnOk, IsTrue};
+ghost use Rattle.std.specs.Prelude.{◌≡◌, ◌++◌, ◌-◌, ◌^◌, ◌<◌, map, option_map, option_to_list, Some, IfOk, OnOk, IsTrue};
 ghost use Rattle.std.specs.String.{string_bytes};
 ghost use Rattle.serde_json.specs.Find.{get_member};
 ghost use Rattle.serde_json.specs.View.{view, members_view};
@@ -96,6 +96,26 @@ fn read_number(
 {
     let Some(value) = member(members, field.name) else {
         return absent_number(alloc, field.name, field.absent);
+    };
+    read_present(alloc, field.name, field.range, widest, value)
+}
+
+/// The number of reserved bits at a key, `usual` where the key is absent.
+#[tactic(auto, unfolding(crate::specs::Attributes::number_attribute))]
+fn read_reserved(
+    alloc: Global,
+    members: &Map<String, Value>,
+    field: &Field,
+    usual: u64,
+    widest: u64,
+) -> Result<u64, ReadRefusal>
+    requires { widest < 2 ^ 63 }
+    ensures { Answers (λ n. n) result
+        (number_attribute (Some usual) field.now.range widest field.now.name.now
+        (members_view members.now.entries)) }
+{
+    let Some(value) = member(members, field.name) else {
+        return Ok(usual);
     };
     read_present(alloc, field.name, field.range, widest, value)
 }
@@ -237,7 +257,7 @@ pub(crate) fn hex_key(alloc: Global, key: &str) -> Result<String, AllocError>
     Ok(hex_key)
 }
 
-/// The value of a field by its attribute; none where its bits are reserved.
+/// The value of a field by its attribute; none where it has none.
 #[tactic(auto, unfolding(crate::specs::Attributes::attribute_of))]
 fn read_attribute(
     alloc: Global,
@@ -252,6 +272,15 @@ fn read_attribute(
         Kind::Ones(_) | Kind::Free(_) => Ok(None),
         Kind::Number(count) => {
             let number = read_number(alloc, members, field, (1 << count) - 1)?;
+            Ok(Some(FieldValue::Number(number)))
+        }
+        Kind::Reserved(count) => {
+            let ones = (1 << count) - 1;
+            let number = read_reserved(alloc, members, field, ones, ones)?;
+            Ok(Some(FieldValue::Number(number)))
+        }
+        Kind::Zeros(count) => {
+            let number = read_reserved(alloc, members, field, 0, (1 << count) - 1)?;
             Ok(Some(FieldValue::Number(number)))
         }
         Kind::Flag => {
@@ -278,7 +307,7 @@ fn read_attribute(
             let bytes = read_text(alloc, members, field.name)?;
             Ok(Some(FieldValue::Bytes(bytes)))
         }
-        Kind::Hex => {
+        Kind::CountedHex | Kind::Hex => {
             let bytes = read_data(alloc, members, field.name, field.range)?;
             Ok(Some(FieldValue::Bytes(bytes)))
         }

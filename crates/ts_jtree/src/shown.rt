@@ -61,6 +61,13 @@ fn put_hex(
     put_member(alloc, members, key, Value::String(text))
 }
 
+/// Whether a number is so many ones; never for more than 63.
+fn are_ones(count: u32, number: u64) -> bool
+    ensures { result ≡ Shown.are_ones count number }
+{
+    count < 64 && number == (1 << count) - 1
+}
+
 /// Puts the bytes of a language at a key as a text.
 fn put_language(
     alloc: Global,
@@ -126,6 +133,11 @@ fn show_number(
         Kind::Number(_) | Kind::Decimal(_) => {
             put_member(alloc, members, field.name, Value::from(number))
         }
+        Kind::Reserved(count) if are_ones(count, number) => Ok(()),
+        Kind::Zeros(_) if number == 0 => Ok(()),
+        Kind::Reserved(_) | Kind::Zeros(_) => {
+            put_member(alloc, members, field.name, Value::from(number))
+        }
         Kind::Start => put_start(alloc, members, field.name, number),
         Kind::Duration => put_text(alloc, members, field.name, time_text(number).as_str()),
         _ => Ok(()),
@@ -148,7 +160,7 @@ fn show_bytes(
     match field.kind {
         Kind::Language => put_language(alloc, members, field.name, bytes),
         Kind::CountedText | Kind::Text => put_text_or_hex(alloc, members, field.name, bytes),
-        Kind::Hex => put_hex(alloc, members, field.name, bytes),
+        Kind::CountedHex | Kind::Hex => put_hex(alloc, members, field.name, bytes),
         _ => Ok(()),
     }
 }

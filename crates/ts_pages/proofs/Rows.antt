@@ -8,7 +8,7 @@ use Rattle.ts_fields.specs.Bodies.{read_page, read_after, read_items}
 use Rattle.ts_pages.specs.MpegPages.{ca}
 use Rattle.ts_pages.specs.DvbPages.{subtitling}
 use Rattle.ts_pages.specs.DeliveryPages.{cable}
-use Rattle.ts_pages.specs.Pages.{page_of, page_named}
+use Rattle.ts_pages.specs.Pages.{page_of}
 
 -- 18 00 E1 00 names the system 6144 and the PID 256
 ca-row : read_page ca (bits_of (0x18 ∷ 0x00 ∷ 0xE1 ∷ 0x00 ∷ []))
@@ -39,12 +39,9 @@ subtitling-row : read_page subtitling (bits_of (0x66 ∷ 0x72 ∷ 0x61 ∷ 0x10 
 unfolding bits number_of read_number read_bytes read_rest read_field read_rows read_page read_after read_items
 subtitling-row = refl
 
--- the page of a tag and of its name
+-- the page of a tag
 tag-row : page_of 0x44 ≡ Some cable
 tag-row = refl
-
-name-row : page_named (codes "cable_delivery_system_descriptor") ≡ Some cable
-name-row = refl
 
 -- a tag of a broadcaster's own has none
 own-row : page_of 0x83 ≡ None

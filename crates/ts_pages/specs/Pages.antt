@@ -1,6 +1,6 @@
--- The pages of all descriptors that have one here.
--- ISO/IEC 13818-1, 2.6, and ETSI EN 300 468, 6.2. All other tags have no page.
-use Rattle.std.specs.Prelude.{ℕ, List, [], ◌∷◌, nat_eq, bytes_eq, Option}
+-- The pages of all descriptors that have a struct.
+-- ISO/IEC 13818-1, 2.6, and ETSI EN 300 468, 6.2.
+use Rattle.std.specs.Prelude.{ℕ, List, [], ◌∷◌, nat_eq, Option}
 use Rattle.std.specs.List.{find}
 use Rattle.ts_fields.specs.Bodies.{Page}
 use Rattle.ts_pages.specs.MpegPages.{registration, data_stream_alignment, ca, language, maximum_bitrate}
@@ -36,7 +36,3 @@ pages =
 -- the page of a tag; none where it has none
 abbrev pub page_of : ℕ → Option Page
 page_of tag = find (λ p. nat_eq tag p.tag) pages
-
--- the page of a name; none where it has none
-abbrev pub page_named : List ℕ → Option Page
-page_named name = find (λ p. bytes_eq name p.name) pages

@@ -11,6 +11,7 @@ pub static NETWORK_NAME: Layout = Layout {
         "network_name" Text;
     },
     items: None,
+    counted: None,
 };
 
 /// The services of a transport stream with their types (ETSI EN 300 468, 6.2.35).
@@ -25,6 +26,7 @@ pub static SERVICE_LIST: Layout = Layout {
             "service_type" Number(8);
         },
     }),
+    counted: None,
 };
 
 /// The name of a bouquet (ETSI EN 300 468, 6.2.4).
@@ -35,6 +37,7 @@ pub static BOUQUET_NAME: Layout = Layout {
         "bouquet_name" Text;
     },
     items: None,
+    counted: None,
 };
 
 /// The type, the provider and the name of a service (ETSI EN 300 468, 6.2.33).
@@ -47,6 +50,7 @@ pub static SERVICE: Layout = Layout {
         "service_name" CountedText;
     },
     items: None,
+    counted: None,
 };
 
 /// The name of an event and a short text about it (ETSI EN 300 468, 6.2.37).
@@ -59,6 +63,7 @@ pub static SHORT_EVENT: Layout = Layout {
         "text" CountedText;
     },
     items: None,
+    counted: None,
 };
 
 /// The kind, the tag, the language and a text of a component (ETSI EN 300 468, 6.2.8).
@@ -74,6 +79,7 @@ pub static COMPONENT: Layout = Layout {
         "text" Text;
     },
     items: None,
+    counted: None,
 };
 
 /// The tag by which other descriptors refer to a component (ETSI EN 300 468, 6.2.39).
@@ -84,6 +90,7 @@ pub static STREAM_IDENTIFIER: Layout = Layout {
         "component_tag" Number(8);
     },
     items: None,
+    counted: None,
 };
 
 /// The conditional access systems of a bouquet, a service or an event (ETSI EN 300 468, 6.2.5).
@@ -97,6 +104,7 @@ pub static CA_IDENTIFIER: Layout = Layout {
             "value" Number(16);
         },
     }),
+    counted: None,
 };
 
 /// The genres of an event (ETSI EN 300 468, 6.2.9).
@@ -112,6 +120,7 @@ pub static CONTENT: Layout = Layout {
             "user_byte" Number(8);
         },
     }),
+    counted: None,
 };
 
 /// The minimum ages for an event, one for each country (ETSI EN 300 468, 6.2.28).
@@ -126,6 +135,7 @@ pub static PARENTAL_RATING: Layout = Layout {
             "rating" Number(8);
         },
     }),
+    counted: None,
 };
 
 /// The Teletext pages of a component, each with its language (ETSI EN 300 468, 6.2.43).
@@ -142,6 +152,7 @@ pub static TELETEXT: Layout = Layout {
             "teletext_page_number" Number(8);
         },
     }),
+    counted: None,
 };
 
 /// The subtitles of a component, each with its language (ETSI EN 300 468, 6.2.41).
@@ -158,6 +169,7 @@ pub static SUBTITLING: Layout = Layout {
             "ancillary_page_id" Number(16);
         },
     }),
+    counted: None,
 };
 
 /// The organisation that defines the private descriptors that follow (ETSI EN 300 468, 6.2.31).
@@ -168,4 +180,5 @@ pub static PRIVATE_DATA_SPECIFIER: Layout = Layout {
         "private_data_specifier" Number(32);
     },
     items: None,
+    counted: None,
 };

@@ -1,19 +1,13 @@
-//! The page of a tag, and of a name.
+//! The page of a tag.
 
 ghost use Rattle.std.specs.Prelude.{◌≡◌, true, option_map, IfSome, IsTrue};
 ghost use Rattle.ts_fields.specs.Bodies.{page, page_sound, page_exact};
-ghost use Rattle.ts_pages.specs.Pages.{page_of, page_named};
+ghost use Rattle.ts_pages.specs.Pages.{page_of};
 
 use crate::{delivery, dvb, mpeg};
 use ts_fields::Layout;
 
-// The tags that have a page, in their order: those of `layout_of`.
-static TAGS: [u8; 21] = [
-    0x05, 0x06, 0x09, 0x0A, 0x0E, 0x40, 0x41, 0x43, 0x44, 0x47, 0x48, 0x4D, 0x50, 0x52, 0x53, 0x54,
-    0x55, 0x56, 0x59, 0x5A, 0x5F,
-];
-
-/// The page of a descriptor_tag; `None` for a tag without a page here.
+/// The page of a descriptor_tag whose descriptors have a struct; `None` for every other tag.
 pub fn layout_of(tag: u8) -> Option<&'static Layout>
     ensures page { option_map (λ l. page l.now) result ≡ page_of tag }
     ensures sound { IfSome result (λ l. IsTrue (page_sound (page l.now))) }
@@ -43,20 +37,4 @@ pub fn layout_of(tag: u8) -> Option<&'static Layout>
         0x5F => Some(&dvb::PRIVATE_DATA_SPECIFIER),
         _ => None,
     }
-}
-
-/// The page of the name of a descriptor; `None` for a name without a page here.
-pub fn layout_named(name: &str) -> Option<&'static Layout>
-    ensures page { option_map (λ l. page l.now) result ≡ page_named name.now }
-    ensures sound { IfSome result (λ l. IsTrue (page_sound (page l.now))) }
-    ensures exact { IfSome result (λ l. page_exact (page l.now) ≡ true) }
-{
-    for tag in &TAGS {
-        if let Some(layout) = layout_of(*tag) {
-            if name == layout.name {
-                return Some(layout);
-            }
-        }
-    }
-    None
 }

@@ -10,7 +10,7 @@ use Rattle.ts_bits.specs.TaggedBody.{TaggedBody}
 use Rattle.ts_fields.specs.Bits.{bits_of}
 use Rattle.ts_fields.specs.Layout.{Row, Held}
 use Rattle.ts_fields.specs.declared.field.Kind.{Kind}
-use Rattle.ts_fields.specs.declared.field.Kind.TheVariants.{Number, Ones, Free, Flag, Start, Duration, Decimal, Language, CountedText, Text, Hex}
+use Rattle.ts_fields.specs.declared.field.Kind.TheVariants.{Number, Reserved, Zeros, Ones, Free, Flag, Start, Duration, Decimal, Language, CountedText, Text, CountedHex, Hex}
 use Rattle.ts_fields.specs.Fitting.{fits, field_fits}
 use Rattle.ts_fields.specs.Reading.{read_number, read_rows}
 use Rattle.ts_fields.specs.Spelling.{spell_rows, holds}
@@ -129,7 +129,11 @@ first_there : (k : Kind) (values : List Held) (rest : ℕ) → field_fits k (sli
 first_there (Ones count) values rest fit is = omega (arith, is)
 first_there (Free count) values rest fit is = omega (arith, is)
 first_there (Number count) [] rest fit is = cc
+first_there (Reserved count) [] rest fit is = cc
+first_there (Zeros count) [] rest fit is = cc
 first_there (Number count) (v ∷ vs) rest fit is = omega (arith, is)
+first_there (Reserved count) (v ∷ vs) rest fit is = omega (arith, is)
+first_there (Zeros count) (v ∷ vs) rest fit is = omega (arith, is)
 first_there Flag [] rest fit is = cc
 first_there Flag (v ∷ vs) rest fit is = omega (arith, is)
 first_there Start [] rest fit is = cc
@@ -145,7 +149,9 @@ first_there CountedText (v ∷ vs) rest fit is = omega (arith, is)
 first_there Text [] rest fit is = cc
 first_there Text (v ∷ vs) rest fit is = omega (arith, is)
 first_there Hex [] rest fit is = cc
+first_there CountedHex [] rest fit is = cc
 first_there Hex (v ∷ vs) rest fit is = omega (arith, is)
+first_there CountedHex (v ∷ vs) rest fit is = omega (arith, is)
 
 -- values that fit are as many as their rows have
 pub fit_count : (rs : List Row) (values : List Held) → fits rs values ≡ true → length values ≡ held_count rs

@@ -22,12 +22,16 @@ fn width(kind: Kind) -> u64
     ensures { result ≡ SoundRows.width kind }
 {
     match kind {
-        Kind::Number(count) | Kind::Ones(count) | Kind::Free(count) => u64::from(count),
+        Kind::Number(count)
+        | Kind::Reserved(count)
+        | Kind::Zeros(count)
+        | Kind::Ones(count)
+        | Kind::Free(count) => u64::from(count),
         Kind::Flag => 1,
         Kind::Decimal(digits) => 4 * u64::from(digits),
         Kind::Start => 40,
         Kind::Duration => 24,
-        Kind::Language | Kind::CountedText | Kind::Text | Kind::Hex => 0,
+        Kind::Language | Kind::CountedText | Kind::CountedHex | Kind::Text | Kind::Hex => 0,
     }
 }
 

@@ -8,4 +8,4 @@ returns c = λ pages p h d found sound fit written.
     let whole = c.length_of_bits.ensures.bytes d.body in
     let small : length (spell_page p h) ≤ 2040 = omega (arith, ap length written.same_bits, written.room) in
     spelled_is_typed pages p h d found written.same_tag written.same_bits
-    (c.written_is_read.ensures p h sound (c.small_page_fits.ensures p h fit small))
+    (c.written_is_read.ensures p h (λ _. small) sound (c.small_page_fits.ensures p h fit sound small))

@@ -4,7 +4,7 @@ use Rattle.std.proofs.lemmas.List.{at_drop_all}
 use Rattle.std.specs.Prelude.{Option, Some, None, bytes_eq, map}
 use Rattle.std.specs.List.{filter_map, find}
 use Rattle.ts_fields.specs.Bodies.{Page}
-use Rattle.ts_pages.specs.Pages.{pages, page_of, page_named}
+use Rattle.ts_shown_pages.specs.Pages.{pages, page_of, page_named, second_quarter, third_quarter, last_quarter}
 
 -- the first of these tags' pages that has the name
 unfoldable pub first_named : List ℕ → List ℕ → Option Page
@@ -53,5 +53,5 @@ none_left name tags i past = sym (at_drop_all (first_named name) tags i past)
 
 -- among the tags of all pages it is the page of the name
 pub all_named : (name : List ℕ) → first_named name (map (λ p. p.tag) pages) ≡ page_named name
-unfolding first_named
+unfolding first_named second_quarter third_quarter last_quarter
 all_named name = refl

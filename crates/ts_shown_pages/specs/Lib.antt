@@ -1,0 +1,3 @@
+-- The definitions of the pages by which JSON shows descriptors.
+pub mod ShownPages
+pub mod Pages

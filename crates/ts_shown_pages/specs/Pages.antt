@@ -1,0 +1,101 @@
+-- The pages of all descriptors that JSON shows by their fields. Written by tools/pages from pages.txt.
+-- ISO/IEC 13818-1, 2.6, and ETSI EN 300 468, 6.2. All other tags have no page. The list is in four parts, since no proof goes
+-- through one of all.
+use Rattle.std.specs.Prelude.{ℕ, List, [], ◌∷◌, nat_eq, bytes_eq, Option}
+use Rattle.std.specs.List.{find}
+use Rattle.ts_fields.specs.Bodies.{Page}
+use Rattle.ts_pages.specs.DeliveryPages.{satellite}
+use Rattle.ts_pages.specs.DvbPages.{network_name, service_list, bouquet_name, service, short_event, component, stream_identifier, ca_identifier, content, parental_rating, teletext, subtitling, private_data_specifier}
+use Rattle.ts_pages.specs.MpegPages.{registration, data_stream_alignment, language}
+use Rattle.ts_shown_pages.specs.ShownPages.{audio_stream, ca, system_clock, multiplex_buffer_utilization, maximum_bitrate, private_data_indicator, smoothing_buffer, std, mpeg4_video, mpeg4_audio, avc_video, mpeg2_aac_audio, stuffing, cable_delivery_system, vbi_data, vbi_teletext, country_availability, linkage, nvod_reference, time_shifted_service, extended_event, time_shifted_event, local_time_offset, terrestrial_delivery_system, multilingual_network_name, multilingual_bouquet_name, multilingual_service_name, multilingual_component, service_move, short_smoothing_buffer, frequency_list, partial_transport_stream, data_broadcast, scrambling, data_broadcast_id, pdc, ancillary_data, application_signalling, service_identifier, service_availability, default_authority, dts, aac, fta_content_management, logical_channel, hd_simulcast_logical_channel}
+
+-- the last quarter of them
+unfoldable pub last_quarter : List Page
+last_quarter =
+    partial_transport_stream
+    ∷ data_broadcast
+    ∷ scrambling
+    ∷ data_broadcast_id
+    ∷ pdc
+    ∷ ancillary_data
+    ∷ application_signalling
+    ∷ service_identifier
+    ∷ service_availability
+    ∷ default_authority
+    ∷ dts
+    ∷ aac
+    ∷ fta_content_management
+    ∷ logical_channel
+    ∷ hd_simulcast_logical_channel
+    ∷ []
+
+-- the third quarter of them, and those after it
+unfoldable pub third_quarter : List Page
+third_quarter =
+    stream_identifier
+    ∷ ca_identifier
+    ∷ content
+    ∷ parental_rating
+    ∷ teletext
+    ∷ local_time_offset
+    ∷ subtitling
+    ∷ terrestrial_delivery_system
+    ∷ multilingual_network_name
+    ∷ multilingual_bouquet_name
+    ∷ multilingual_service_name
+    ∷ multilingual_component
+    ∷ private_data_specifier
+    ∷ service_move
+    ∷ short_smoothing_buffer
+    ∷ frequency_list
+    ∷ last_quarter
+
+-- the second quarter of them, and those after it
+unfoldable pub second_quarter : List Page
+second_quarter =
+    service_list
+    ∷ stuffing
+    ∷ satellite
+    ∷ cable_delivery_system
+    ∷ vbi_data
+    ∷ vbi_teletext
+    ∷ bouquet_name
+    ∷ service
+    ∷ country_availability
+    ∷ linkage
+    ∷ nvod_reference
+    ∷ time_shifted_service
+    ∷ short_event
+    ∷ extended_event
+    ∷ time_shifted_event
+    ∷ component
+    ∷ third_quarter
+
+-- the pages, in the order of their tags
+abbrev pub pages : List Page
+pages =
+    audio_stream
+    ∷ registration
+    ∷ data_stream_alignment
+    ∷ ca
+    ∷ language
+    ∷ system_clock
+    ∷ multiplex_buffer_utilization
+    ∷ maximum_bitrate
+    ∷ private_data_indicator
+    ∷ smoothing_buffer
+    ∷ std
+    ∷ mpeg4_video
+    ∷ mpeg4_audio
+    ∷ avc_video
+    ∷ mpeg2_aac_audio
+    ∷ network_name
+    ∷ second_quarter
+
+-- the page of a tag; none where it has none
+abbrev pub page_of : ℕ → Option Page
+page_of tag = find (λ p. nat_eq tag p.tag) pages
+
+-- the page of a name; none where it has none
+abbrev pub page_named : List ℕ → Option Page
+page_named name = find (λ p. bytes_eq name p.name) pages
