@@ -1,6 +1,7 @@
 //! What may be at a place of a text of tables, by the pages of tables and descriptors.
 use serde_json::Value;
 use std::alloc::AllocError;
+use ts_charsets::all_text_tables;
 use ts_fields::{Field, Kind};
 use ts_shown_pages::{layout_named, layout_of};
 use ts_table_pages::{
@@ -246,6 +247,37 @@ pub(crate) fn put_form(text: &mut String, place: Place<'_>, key: &str) -> Result
             put_kind(text, row)?;
             text.push('\n')
         }
-        _ => Ok(()),
+        _ => put_tables(text, first, later, key),
     }
+}
+
+// Whether a row of this name is a text.
+fn is_text(rows: &[Field], name: &str) -> bool {
+    match row_named(rows, name) {
+        Some(row) => match row.kind {
+            Kind::CountedText | Kind::Text => true,
+            _ => false,
+        },
+        None => false,
+    }
+}
+
+// Puts a line with the names of all character tables, where the key is that of the table of a text.
+fn put_tables(
+    text: &mut String,
+    first: &[Field],
+    later: &[Field],
+    key: &str,
+) -> Result<(), AllocError> {
+    let Some(name) = key.strip_suffix("_table") else {
+        return Ok(());
+    };
+    if !is_text(first, name) && !is_text(later, name) {
+        return Ok(());
+    }
+    write!(text, "{key}: one of")?;
+    for table in all_text_tables() {
+        write!(text, " {}", table.name)?;
+    }
+    text.push('\n')
 }

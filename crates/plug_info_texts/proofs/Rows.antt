@@ -6,9 +6,12 @@ use Rattle.std.specs.Str.{chars, is_utf8}
 use lib.Utf8.{encode}
 use Rattle.plugin_notes.specs.PidPackets.{numbers_below}
 use Rattle.ts_bits.specs.TaggedBody.{TaggedBody}
+use Rattle.ts_charsets.specs.AlphabetTexts.{single_chars}
+use Rattle.ts_charsets.specs.ShownTexts.{shown_text}
+use Rattle.ts_charsets.specs.TextTables.{tabled_text}
 use Rattle.ts_fields.specs.Texts.{text_of}
 use Rattle.plug_info_texts.specs.InfoJson.{array, bytes_field, component_json, component_marks, stream_json, text_or_hex, type_json, whole_json}
-use Rattle.plug_info_texts.specs.InfoTexts.{component_text, hundredths, marks_text, percent, pid_text, portion_text, rate_part, rate_text, sdt_texts, service_head, service_tail, shown, stream_text, type_text}
+use Rattle.plug_info_texts.specs.InfoTexts.{component_text, hundredths, marks_text, percent, pid_text, portion_text, rate_part, rate_text, sdt_texts, service_head, service_tail, shown_name, stream_text, type_text}
 use Rattle.plug_info_texts.specs.Rounding.{rounded}
 use Rattle.plug_info_texts.specs.ServiceNames.{name_in}
 
@@ -59,29 +62,43 @@ share-none : percent (hundredths 0 0) ≡ codes "0.00%"
 unfolding digits
 share-none = refl
 
--- a name in ASCII, one after 0x15, one in another character table, and one with a quotation mark
-plain-row : shown (codes "BBC 1") ≡ codes "\"BBC 1\""
+-- a name in ASCII, one after 0x15, ones in ISO 8859-9, in ISO 8859-5 and in ISO 6937, one with a byte that has no character, and one
+-- with a quotation mark
+plain-row : shown_name (codes "BBC 1") ≡ codes "\"BBC 1\""
+unfolding chars encode encode_with is_utf8 shown_text single_chars tabled_text
 plain-row = refl
 
-utf8-row : shown (0x15 ∷ 0xC3 ∷ 0x9C ∷ []) ≡ 0x22 ∷ 0xC3 ∷ 0x9C ∷ 0x22 ∷ []
-unfolding is_utf8 chars encode
+utf8-row : shown_name (0x15 ∷ 0xC3 ∷ 0x9C ∷ []) ≡ 0x22 ∷ 0xC3 ∷ 0x9C ∷ 0x22 ∷ []
+unfolding chars encode encode_with is_utf8 shown_text single_chars tabled_text
 utf8-row = refl
 
-other-row : shown (0x05 ∷ 0x41 ∷ []) ≡ codes "0x0541"
-unfolding encode_with
+turkish-row : shown_name (0x05 ∷ (codes "Das Erste " ++ (0xFC ∷ []))) ≡ codes "\"Das Erste " ++ (0xC3 ∷ 0xBC ∷ 0x22 ∷ [])
+unfolding chars encode encode_with is_utf8 shown_text single_chars tabled_text
+turkish-row = refl
+
+cyrillic-row : shown_name (0x01 ∷ 0xBD ∷ 0xDE ∷ []) ≡ 0x22 ∷ 0xD0 ∷ 0x9D ∷ 0xD0 ∷ 0xBE ∷ 0x22 ∷ []
+unfolding chars encode encode_with is_utf8 shown_text single_chars tabled_text
+cyrillic-row = refl
+
+latin-row : shown_name (0x86 ∷ (codes "Kan" ++ (0xC2 ∷ 0x61 ∷ 0x87 ∷ 0x8A ∷ codes "1"))) ≡ codes "\"Kan" ++ (0xC3 ∷ 0xA1 ∷ codes " 1\"")
+unfolding chars encode encode_with is_utf8 shown_text single_chars tabled_text
+latin-row = refl
+
+other-row : shown_name (0x05 ∷ 0x80 ∷ []) ≡ codes "0x0580"
+unfolding chars encode encode_with is_utf8 shown_text single_chars tabled_text
 other-row = refl
 
-quote-row : shown (codes "a\"b") ≡ codes "0x612262"
-unfolding encode_with
+quote-row : shown_name (codes "a\"b") ≡ codes "0x612262"
+unfolding chars encode encode_with is_utf8 shown_text single_chars tabled_text
 quote-row = refl
 
 -- U+009B, with which a terminal's commands begin, and U+00A0, which is no control character
-control-row : shown (0x15 ∷ 0xC2 ∷ 0x9B ∷ 0x4A ∷ []) ≡ codes "0x15c29b4a"
-unfolding encode_with is_utf8 chars encode
+control-row : shown_name (0x15 ∷ 0xC2 ∷ 0x9B ∷ 0x4A ∷ []) ≡ codes "0x15c29b4a"
+unfolding chars encode encode_with is_utf8 shown_text single_chars tabled_text
 control-row = refl
 
-space-row : shown (0x15 ∷ 0xC2 ∷ 0xA0 ∷ []) ≡ 0x22 ∷ 0xC2 ∷ 0xA0 ∷ 0x22 ∷ []
-unfolding is_utf8 chars encode
+space-row : shown_name (0x15 ∷ 0xC2 ∷ 0xA0 ∷ []) ≡ 0x22 ∷ 0xC2 ∷ 0xA0 ∷ 0x22 ∷ []
+unfolding chars encode encode_with is_utf8 shown_text single_chars tabled_text
 space-row = refl
 
 -- a service_descriptor, and one whose name is truncated
@@ -89,7 +106,7 @@ abbrev body : List ℕ
 body = 0x01 ∷ 0x03 ∷ (codes "BBC" ++ (0x01 ∷ codes "1"))
 
 head-row : service_head 7 (Some body) ≡ codes "service 7 type 1 (digital television) name \"1\" provider \"BBC\""
-unfolding digits
+unfolding chars encode encode_with is_utf8 shown_text single_chars tabled_text digits
 head-row = refl
 
 cut-row : name_in (Some (0x01 ∷ 0x01 ∷ 0x41 ∷ 0x05 ∷ 0x41 ∷ [])) ≡ None
@@ -159,17 +176,17 @@ array-none = refl
 array-two : array (codes "1" ∷ codes "2" ∷ []) ≡ codes "[1,2]"
 array-two = refl
 
--- a name that is a text, bytes in another character table, a quotation mark, a backslash, a control character, and no name
+-- a name that is a text, one with a byte that has no character, a quotation mark, a backslash, a control character, and no name
 json-plain : bytes_field (codes "name") (Some (codes "BBC 1")) ≡ codes "\"name\":\"BBC 1\""
-unfolding chars encode
+unfolding chars encode encode_with is_utf8 shown_text single_chars tabled_text
 json-plain = refl
 
-json-other : bytes_field (codes "name") (Some (0x05 ∷ 0x41 ∷ [])) ≡ codes "\"name_hex\":\"0541\""
-unfolding encode_with
+json-other : bytes_field (codes "name") (Some (0x05 ∷ 0x80 ∷ [])) ≡ codes "\"name_hex\":\"0580\""
+unfolding chars encode encode_with is_utf8 shown_text single_chars tabled_text
 json-other = refl
 
 json-quote : bytes_field (codes "name") (Some (codes "a\"b")) ≡ codes "\"name\":\"a\\\"b\""
-unfolding is_utf8 chars encode
+unfolding chars encode encode_with is_utf8 shown_text single_chars tabled_text
 json-quote = refl
 
 json-backslash : text_or_hex (codes "a\\b") (text_of (codes "a\\b")) ≡ codes "\"a\\\\b\""
@@ -177,7 +194,7 @@ unfolding is_utf8 chars encode
 json-backslash = refl
 
 json-control : bytes_field (codes "name") (Some (0x15 ∷ 0xC2 ∷ 0x80 ∷ [])) ≡ codes "\"name_hex\":\"15c280\""
-unfolding encode_with is_utf8 chars encode
+unfolding chars encode encode_with is_utf8 shown_text single_chars tabled_text
 json-control = refl
 
 json-none : bytes_field (codes "name") None ≡ codes "\"name\":null"

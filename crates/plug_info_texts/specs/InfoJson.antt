@@ -5,6 +5,7 @@ use Rattle.std.specs.List.{flat_map}
 use Rattle.std.specs.Fmt.{decimal}
 use Rattle.hex.specs.Hex.{encode_lower}
 use Rattle.ts_bits.specs.TaggedBody.{TaggedBody}
+use Rattle.ts_charsets.specs.ShownTexts.{shown_text}
 use Rattle.ts_fields.specs.Texts.{text_of}
 use Rattle.ts_packet.specs.declared.numbers.TheConstants.{PACKET_SIZE}
 use Rattle.plug_info_texts.specs.InfoNames.{service_type_names, stream_type_names, text_for}
@@ -56,7 +57,7 @@ text_field key bytes (Some text) =
 -- the same, or `"<key>":null` if there are no bytes
 abbrev pub bytes_field : List ℕ → Option (List ℕ) → List ℕ
 bytes_field key None = codes "\"" ++ (key ++ codes "\":null")
-bytes_field key (Some bytes) = text_field key bytes (text_of bytes)
+bytes_field key (Some bytes) = text_field key bytes (shown_text bytes)
 
 -- the hexadecimal digits of bytes in quotation marks
 abbrev pub quoted_hex : List ℕ → List ℕ

@@ -4,6 +4,7 @@ use Rattle.std.specs.List.{flat_map}
 use Rattle.std.specs.Fmt.{decimal}
 use Rattle.hex.specs.Hex.{encode_lower}
 use Rattle.ts_bits.specs.TaggedBody.{TaggedBody}
+use Rattle.ts_charsets.specs.ShownTexts.{shown_text}
 use Rattle.ts_fields.specs.Texts.{text_of}
 use Rattle.ts_packet.specs.declared.numbers.TheConstants.{PACKET_SIZE}
 use Rattle.plug_info_texts.specs.InfoNames.{service_type_names, stream_type_names, text_for}
@@ -28,10 +29,15 @@ quoted_or_hex bytes (Some text) = if is_plain text then codes "\"" ++ (text ++ c
 abbrev pub shown : List ℕ → List ℕ
 shown bytes = quoted_or_hex bytes (text_of bytes)
 
--- bytes as they are shown, or `none`
+-- the bytes of a name as they are shown: in the character table that they select, without emphasis, and with a space for a
+-- line break
+abbrev pub shown_name : List ℕ → List ℕ
+shown_name bytes = quoted_or_hex bytes (shown_text bytes)
+
+-- the bytes of a name as they are shown, or `none`
 abbrev pub shown_or_none : Option (List ℕ) → List ℕ
 shown_or_none None = codes "none"
-shown_or_none (Some bytes) = shown bytes
+shown_or_none (Some bytes) = shown_name bytes
 
 -- a number, or `none`
 abbrev pub number_or_none : Option ℕ → List ℕ

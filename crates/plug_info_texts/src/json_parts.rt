@@ -2,6 +2,7 @@
 ghost use Rattle.std.specs.Prelude.{◌≡◌, ◌++◌, IfOk, OnOk, List, ℕ, option_map};
 ghost use Rattle.std.specs.List.{flat_map};
 ghost use Rattle.std.specs.String.{string_bytes};
+ghost use Rattle.ts_charsets.specs.ShownTexts;
 ghost use Rattle.ts_fields.specs.Texts.{text_of as text_that_is};
 ghost use Rattle.plug_info_texts.specs.InfoJson;
 ghost use Rattle.plug_info_texts.specs.InfoJson.{after_comma, joined};
@@ -12,6 +13,7 @@ use crate::portions::rate_part;
 use crate::scene::Scene;
 use crate::shown::hex_text;
 use std::alloc::{AllocError, Global};
+use ts_charsets::shown_text;
 use ts_fields::text_of;
 
 /// Appends an item after a comma.
@@ -76,16 +78,17 @@ pub fn bytes_field(alloc: Global, key: &str, bytes: Option<&[u8]>) -> Result<Str
     Ok(text)
 }
 
-// A key and its bytes: as a text, if they are one without control characters, else as digits.
+// A key and its bytes: as a text in the character table that they select, if they are one without control characters,
+// else as digits.
 fn text_field(alloc: Global, key: &str, bytes: &[u8]) -> Result<String, AllocError>
-    ensures { IfOk result (λ text. string_bytes text ≡ InfoJson.text_field key.now bytes.now (text_that_is bytes.now)) }
+    ensures { IfOk result (λ text. string_bytes text ≡ InfoJson.text_field key.now bytes.now (ShownTexts.shown_text bytes.now)) }
 {
-    let Some(text) = text_of(bytes) else {
+    let Some(text) = shown_text(alloc, bytes)? else {
         let field = hex_field(alloc, key, bytes)?;
         return Ok(field);
     };
     if is_harmless(text.as_bytes()) {
-        let text = escaped(alloc, text)?;
+        let text = escaped(alloc, &text)?;
         let field = format!(in alloc; "\"{key}\":\"{text}\"")?;
         return Ok(field);
     }

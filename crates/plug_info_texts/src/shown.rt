@@ -6,6 +6,7 @@ ghost use Rattle.plug_info_texts.specs.InfoTexts;
 
 use crate::plain_texts::is_plain;
 use std::alloc::{AllocError, Global};
+use ts_charsets::shown_text;
 use ts_fields::text_of;
 
 /// Bytes as they are shown: as a text in quotation marks, if they are one that can be there as it is, else as
@@ -14,6 +15,23 @@ pub fn shown(alloc: Global, bytes: &[u8]) -> Result<String, AllocError>
     ensures { IfOk result (λ text. string_bytes text ≡ InfoTexts.shown bytes.now) }
 {
     let Some(text) = text_of(bytes) else {
+        let hex = hex_text(alloc, bytes)?;
+        return Ok(hex);
+    };
+    if is_plain(text.as_bytes()) {
+        let quoted = format!(in alloc; "\"{text}\"")?;
+        return Ok(quoted);
+    }
+    let hex = hex_text(alloc, bytes)?;
+    Ok(hex)
+}
+
+/// The bytes of a name as they are shown: as a text in the character table that they select, in quotation marks, if it
+/// is one that stands there as it is, else as hexadecimal digits.
+pub fn shown_name(alloc: Global, bytes: &[u8]) -> Result<String, AllocError>
+    ensures { IfOk result (λ text. string_bytes text ≡ InfoTexts.shown_name bytes.now) }
+{
+    let Some(text) = shown_text(alloc, bytes)? else {
         let hex = hex_text(alloc, bytes)?;
         return Ok(hex);
     };
@@ -34,12 +52,12 @@ pub fn hex_text(alloc: Global, bytes: &[u8]) -> Result<String, AllocError>
     Ok(text)
 }
 
-/// Bytes as they are shown, or `none`.
+/// The bytes of a name as they are shown, or `none`.
 pub fn shown_or_none(alloc: Global, bytes: Option<&[u8]>) -> Result<String, AllocError>
     ensures { IfOk result (λ text. string_bytes text ≡ InfoTexts.shown_or_none (option_map (λ b. b.now) bytes.entry)) }
 {
     let text = match bytes {
-        Some(bytes) => shown(alloc, bytes)?,
+        Some(bytes) => shown_name(alloc, bytes)?,
         None => String::from_str(alloc, "none")?,
     };
     Ok(text)

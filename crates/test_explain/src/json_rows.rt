@@ -230,7 +230,7 @@ fn descriptor_name_rows() -> &'static [JsonRow] {
 
 // Values of another kind.
 fn value_rows() -> &'static [JsonRow] {
-    static ROWS: [JsonRow; 4] = [
+    static ROWS: [JsonRow; 5] = [
         JsonRow {
             about: "a running_status in words",
             path: &[0, 0],
@@ -258,6 +258,13 @@ fn value_rows() -> &'static [JsonRow] {
             key: "CA_mode",
             kind: JsonKind::WrongKind,
             text: "{\"#name\":\"tsduck\",\"#nodes\":[{\"#name\":\"EIT\",\"#nodes\":[{\"#name\":\"event\",\"CA_mode\":1}]}]}",
+        },
+        JsonRow {
+            about: "a character table that is unknown",
+            path: &[0, 0],
+            key: "network_name_table",
+            kind: JsonKind::WrongKind,
+            text: "{\"#name\":\"tsduck\",\"#nodes\":[{\"#name\":\"NIT\",\"#nodes\":[{\"#name\":\"network_name_descriptor\",\"network_name\":\"a\",\"network_name_table\":\"Latin-1\"}]}]}",
         },
     ];
     &ROWS

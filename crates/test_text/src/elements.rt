@@ -26,7 +26,7 @@ static EVENT: &[Field] = rows![
 type Told<'a> = Result<(usize, usize), (&'a str, JsonKind)>;
 
 /// Elements, and what is read from them.
-static ELEMENTS: [(&str, Told<'static>); 8] = [
+static ELEMENTS: [(&str, Told<'static>); 12] = [
     (
         r##"{"#name":"event","event_id":"0x1F","start_time":"undefined","duration":"01:45:30"}"##,
         Ok((5, 0)),
@@ -52,6 +52,22 @@ static ELEMENTS: [(&str, Told<'static>); 8] = [
     (
         r##"{"#name":"event","event_id":1,"name":"a","name_hex":"61"}"##,
         Err(("name_hex", JsonKind::UnknownKey)),
+    ),
+    (
+        r##"{"#name":"event","event_id":1,"start_time":"undefined","duration":"01:45:30","name":"ü","name_table":"ISO-8859-9"}"##,
+        Ok((5, 0)),
+    ),
+    (
+        r##"{"#name":"event","event_id":1,"name_table":"ISO-8859-9"}"##,
+        Err(("name_table", JsonKind::UnknownKey)),
+    ),
+    (
+        r##"{"#name":"event","event_id":1,"start_time":"undefined","duration":"01:45:30","name":"ю","name_table":"Latin-1"}"##,
+        Err(("name_table", JsonKind::WrongKind)),
+    ),
+    (
+        r##"{"#name":"event","event_id":1,"start_time":"undefined","duration":"01:45:30","name":"ю","name_table":"ISO-8859-9"}"##,
+        Err(("name", JsonKind::OutOfRange)),
     ),
 ];
 
@@ -108,6 +124,6 @@ fn an_event_is_shown(rt: HostRuntime) {
     same_text(
         &rt,
         text.as_str(),
-        r##"{"#name":"event","CA_mode":false,"duration":"01:45:30","event_id":31,"name_hex":"054e657773","start_time":"1993-10-13 12:45:00"}"##,
+        r##"{"#name":"event","CA_mode":false,"duration":"01:45:30","event_id":31,"name":"News","name_table":"ISO-8859-9","start_time":"1993-10-13 12:45:00"}"##,
     );
 }

@@ -94,9 +94,11 @@ bytes_plain most (Some (rows.bytes b)) ms show each all = each b
 string_plain : (most : ℕ) (key text : List ℕ) (ms : Members) → ArePlain most ms → ArePlain most (put key (string text) ms)
 string_plain most key text ms all = put_plain most key (string text) ms (flat most (string text) refl refl) all
 
-text_plain : (most : ℕ) (o : Option (List ℕ)) (key b : List ℕ) (ms : Members) → ArePlain most ms → ArePlain most (put_text_of o key b ms)
-text_plain most (Some text) key b ms all = string_plain most key text ms all
-text_plain most None key b ms all = string_plain most _ _ ms all
+text_plain : (most : ℕ) (o : Option (List ℕ)) (tabled : Option (List ℕ × List ℕ)) (key b : List ℕ) (ms : Members)
+    → ArePlain most ms → ArePlain most (put_text_of o tabled key b ms)
+text_plain most (Some text) tabled key b ms all = string_plain most key text ms all
+text_plain most None (Some x) key b ms all = string_plain most _ _ _ (string_plain most key x.1 ms all)
+text_plain most None None key b ms all = string_plain most _ _ ms all
 
 attribute_plain : (most : ℕ) (kind : Kind) (key : List ℕ) (held : Option Held) (ms : Members) → ArePlain most ms
     → ArePlain most (put_attribute kind key held ms)
@@ -111,8 +113,8 @@ attribute_plain most kinds.Duration key held ms all = number_plain most held key
 attribute_plain most (kinds.Decimal digits) key held ms all =
     number_plain most held key ms (λ n. number (unsigned n)) (λ n. flat most (number (unsigned n)) refl refl) all
 attribute_plain most kinds.Language key held ms all = bytes_plain most held ms _ (λ b. string_plain most key b ms all) all
-attribute_plain most kinds.CountedText key held ms all = bytes_plain most held ms _ (λ b. text_plain most (text_of b) key b ms all) all
-attribute_plain most kinds.Text key held ms all = bytes_plain most held ms _ (λ b. text_plain most (text_of b) key b ms all) all
+attribute_plain most kinds.CountedText key held ms all = bytes_plain most held ms _ (λ b. text_plain most (text_of b) _ key b ms all) all
+attribute_plain most kinds.Text key held ms all = bytes_plain most held ms _ (λ b. text_plain most (text_of b) _ key b ms all) all
 attribute_plain most kinds.Hex key held ms all = bytes_plain most held ms _ (λ b. string_plain most key _ ms all) all
 
 attributes_plain : (most : ℕ) (rs : List Row) (values : List Held) (ms : Members) → ArePlain most ms → ArePlain most (put_attributes rs values ms)

@@ -1,6 +1,6 @@
 -- Attributes that are shown are read again.
 use Rattle.std.proofs.Common.{◌≡◌, ℕ, zero, suc, ◌+◌, ◌-◌, ◌^◌, ◌<◌, ◌≤◌, ◌⊎◌, inl, inr, Bool, true, false, List, [], ◌∷◌, ◌++◌, length, drop, refl, sym, ap, ◌∙◌, arith, length-append}
-use Rattle.std.specs.Prelude.{nat_lt, nat_eq, ◌&&◌, ◌||◌, not, bytes_eq, Option, Some, None, Ok, option_to_list, slice_get, codes, if◌then◌else◌}
+use Rattle.std.specs.Prelude.{nat_lt, nat_eq, ◌&&◌, ◌||◌, not, bytes_eq, Option, Some, None, Ok, option_to_list, slice_get, codes, if◌then◌else◌, option_and_then}
 use Rattle.std.proofs.lemmas.Bool.{ltb-true, le-leb, eqb-true}
 use Rattle.std.proofs.lemmas.Slice.Eq.{bytes_eq-Decides}
 use Rattle.hex.specs.Hex.{encode_lower, IsBytes}
@@ -16,9 +16,10 @@ use Rattle.ts_fields.specs.Layout.{Row, Held}
 use Rattle.ts_fields.specs.Reading.{are_printable}
 use Rattle.ts_fields.specs.Spelling.{holds}
 use Rattle.ts_fields.specs.Texts.{text_of, text_bytes}
+use Rattle.ts_charsets.specs.TextTables.{TextTable, bytes_by_table, table_named, tabled_bytes, tabled_text}
 use Rattle.ts_fields.specs.Times.{is_start, is_time}
 use Rattle.ts_days.specs.TimeTexts.{start_of, start_text, time_of, time_text}
-use Rattle.ts_jtree.specs.Attributes.{attribute_of, data_attribute, duration_attribute, flag_attribute, hex_attribute, hex_key, language_attribute, number_attribute, number_in, read_attributes, start_attribute, text_at, text_attribute, within}
+use Rattle.ts_jtree.specs.Attributes.{attribute_of, data_attribute, duration_attribute, flag_attribute, hex_attribute, hex_key, language_attribute, number_attribute, number_in, read_attributes, table_key, start_attribute, tabled_at, text_at, text_attribute, within}
 use Rattle.ts_jtree.specs.Numbers.{number_of, bit_of, truth_bit}
 use Rattle.ts_jtree.specs.Shown.{are_ones, are_within, is_key, is_key_of, keys_differ, put_attribute, put_attributes, put_hex, put_text, put_text_of, value_within}
 use Rattle.ts_jtree.proofs.RowLemmas.{both, neither, not_true, second_true}
@@ -33,20 +34,29 @@ pub longer : (key : List ℕ) → key ≡ hex_key key → ⊥
 longer key same =
     let e : length key ≡ length key + 4 = ap length same ∙ length-append key (codes "_hex") in absurd (omega arith)
 
+pub table_longer : (key : List ℕ) → key ≡ table_key key → ⊥
+table_longer key same =
+    let e : length key ≡ length key + 6 = ap length same ∙ length-append key (codes "_table") in absurd (omega arith)
+
 -- ---- a field's attribute leaves the other keys
 
-text_kept_by : (shown : Option (List ℕ)) (name b : List ℕ) (ms : Members) (key : List ℕ)
-    → (bytes_eq key name ≡ false) × (bytes_eq key (hex_key name) ≡ false)
-    → get_member key (put_text_of shown name b ms) ≡ get_member key ms
-text_kept_by (Some text) name b ms key other = get_member-put_other key name (string text) ms (differ key name other.0)
-text_kept_by None name b ms key other =
+text_kept_by : (shown : Option (List ℕ)) (tabled : Option (List ℕ × List ℕ)) (name b : List ℕ) (ms : Members) (key : List ℕ)
+    → (bytes_eq key name ≡ false) × (bytes_eq key (hex_key name) ≡ false) × (bytes_eq key (table_key name) ≡ false)
+    → get_member key (put_text_of shown tabled name b ms) ≡ get_member key ms
+text_kept_by (Some text) tabled name b ms key other = get_member-put_other key name (string text) ms (differ key name other.0)
+text_kept_by None (Some x) name b ms key other =
+    get_member-put_other key (table_key name) (string x.0) (put name (string x.1) ms) (differ key (table_key name) other.2)
+    ∙ get_member-put_other key name (string x.1) ms (differ key name other.0)
+text_kept_by None None name b ms key other =
     get_member-put_other key (hex_key name) (string (encode_lower b)) ms (differ key (hex_key name) other.1)
 
 text_kept : (name b : List ℕ) (ms : Members) (key : List ℕ)
-    → (bytes_eq key name || bytes_eq key (hex_key name)) ≡ false
+    → (bytes_eq key name || (bytes_eq key (hex_key name) || bytes_eq key (table_key name))) ≡ false
     → get_member key (put_text name b ms) ≡ get_member key ms
 text_kept name b ms key other =
-    text_kept_by (text_of b) name b ms key (neither (bytes_eq key name) (bytes_eq key (hex_key name)) other)
+    let one = neither (bytes_eq key name) (bytes_eq key (hex_key name) || bytes_eq key (table_key name)) other in
+    let two = neither (bytes_eq key (hex_key name)) (bytes_eq key (table_key name)) one.1 in
+    text_kept_by (text_of b) (tabled_text b) name b ms key (one.0, two.0, two.1)
 
 one_kept : (key name : List ℕ) (value : Data) (ms : Members) → bytes_eq key name ≡ false
     → get_member key (put name value ms) ≡ get_member key ms
@@ -189,26 +199,48 @@ data_read range key b final ms fit inside same = rw (hex_read key b final ms fit
 abbrev pub TextsTell : Type 0
 TextsTell = (b text : List ℕ) → text_of b ≡ Some text → text_bytes text ≡ b
 
-text_read_by : TextsTell → (shown : Option (List ℕ)) (key b : List ℕ) (final ms : Members) → are_bytes b ≡ true
-    → get_member key ms ≡ None → text_of b ≡ shown → SameAt key final (put_text_of shown key b ms)
-    → SameAt (hex_key key) final (put_text_of shown key b ms) → text_attribute key final ≡ Ok b
-unfolding text_attribute
-text_read_by tell (Some text) key b final ms fit none shown same same_hex =
-    let found = same ∙ get_member-put key (string text) ms in
-    rw found (ap Ok (tell b text shown))
-text_read_by tell None key b final ms fit none shown same same_hex =
-    let absent = same ∙ get_member-put_other key (hex_key key) (string (encode_lower b)) ms (longer key) ∙ none in
-    rw absent (hex_read (hex_key key) b final ms fit same_hex)
+-- each text in a table stands for the bytes that it is shown for
+abbrev pub TablesTell : Type 0
+TablesTell = (b name text : List ℕ) → are_bytes b ≡ true → tabled_text b ≡ Some (name, text) → tabled_bytes name text ≡ Some b
 
-text_read : TextsTell → (key b : List ℕ) (final ms : Members) → are_bytes b ≡ true → get_member key ms ≡ None
-    → SameAt key final (put_text key b ms) → SameAt (hex_key key) final (put_text key b ms)
+tabled_there : (key name text b : List ℕ) (found : Option TextTable) → table_named name ≡ found
+    → option_and_then (λ t. bytes_by_table t text) found ≡ Some b → tabled_at key text (Some (string name)) ≡ Ok b
+tabled_there key name text b None which is = cc
+tabled_there key name text b (Some t) which is = rw (which, is) refl
+
+-- what is at the keys of a text in the end
+abbrev Texts : List ℕ → Members → Members → Members → Type 0
+Texts key final now before =
+    (SameAt (hex_key key) final now) × (SameAt (table_key key) final now) × (get_member (table_key key) before ≡ None)
+
+text_read_by : TextsTell → TablesTell → (shown : Option (List ℕ)) (tabled : Option (List ℕ × List ℕ)) (key b : List ℕ) (final ms : Members)
+    → are_bytes b ≡ true → get_member key ms ≡ None → text_of b ≡ shown → tabled_text b ≡ tabled
+    → SameAt key final (put_text_of shown tabled key b ms) → Texts key final (put_text_of shown tabled key b ms) ms
     → text_attribute key final ≡ Ok b
-text_read tell key b final ms fit none same same_hex =
-    text_read_by tell (text_of b) key b final ms fit none refl same same_hex
+unfolding text_attribute
+text_read_by tell tables (Some text) tabled key b final ms fit none shown is same others =
+    let found = same ∙ get_member-put key (string text) ms in
+    let no_table = others.1 ∙ get_member-put_other (table_key key) key (string text) ms (λ e. table_longer key (sym e)) ∙ others.2 in
+    rw (found, no_table) (ap Ok (tell b text shown))
+text_read_by tell tables None (Some x) key b final ms fit none shown is same others =
+    let found = same ∙ get_member-put_other key (table_key key) (string x.0) (put key (string x.1) ms) (table_longer key) ∙ get_member-put key (string x.1) ms in
+    let table = others.1 ∙ get_member-put (table_key key) (string x.0) (put key (string x.1) ms) in
+    let there : tabled_at key x.1 (Some (string x.0)) ≡ Ok b = tabled_there key x.0 x.1 b (table_named x.0) refl (tables b x.0 x.1 fit is) in
+    rw (found, table) there
+text_read_by tell tables None None key b final ms fit none shown is same others =
+    let absent = same ∙ get_member-put_other key (hex_key key) (string (encode_lower b)) ms (longer key) ∙ none in
+    rw absent (hex_read (hex_key key) b final ms fit others.0)
+
+text_read : TextsTell → TablesTell → (key b : List ℕ) (final ms : Members) → are_bytes b ≡ true → get_member key ms ≡ None
+    → SameAt key final (put_text key b ms) → Texts key final (put_text key b ms) ms
+    → text_attribute key final ≡ Ok b
+text_read tell tables key b final ms fit none same others =
+    text_read_by tell tables (text_of b) (tabled_text b) key b final ms fit none refl refl same others
 
 -- what the laws of texts and times say, by the contracts of the crates below
 pub record Laws : Type 0 where
   pub texts : TextsTell
+  pub tables : TablesTell
   pub starts : (n : ℕ) → n < 2 ^ 40 → is_start n ≡ true → start_of (start_text n) ≡ Some n
   pub times : (hours n : ℕ) → is_time hours n ≡ true → time_of hours (time_text n) ≡ Some n
 
@@ -251,7 +283,8 @@ first_and_rest CountedHex (v ∷ vs) fit = refl
 attribute_again : Laws → (k : Kind) (name : List ℕ) (absent : Option ℕ) (range : Option (ℕ × ℕ))
     (value : Option Held) (final ms : Members) → field_fits k value ≡ true → value_within range value ≡ true
     → (is_key_of k name name ≡ true → get_member name ms ≡ None)
-    → SameAt name final (put_attribute k name value ms) → SameAt (hex_key name) final (put_attribute k name value ms)
+    → SameAt name final (put_attribute k name value ms)
+    → (is_key_of k name (table_key name) ≡ true → Texts name final (put_attribute k name value ms) ms)
     → attribute_of k name absent range final ≡ Ok (kept k value)
 unfolding attribute_of put_attribute
 attribute_again laws (Ones count) name absent range value final ms fit inside none same hex = refl
@@ -298,11 +331,11 @@ attribute_again laws CountedText name absent range None final ms fit inside none
 attribute_again laws CountedText name absent range (Some (layout.number n)) final ms fit inside none same hex = cc
 attribute_again laws CountedText name absent range (Some (layout.bytes b)) final ms fit inside none same hex =
     let bytes = (both (nat_lt (length b) 256) (are_bytes b) fit).1 in
-    rw (text_read laws.texts name b final ms bytes (none (rw (self_key name) refl)) same hex) refl
+    rw (text_read laws.texts laws.tables name b final ms bytes (none (rw (self_key name) refl)) same (hex (second_true _ _ (second_true _ _ (self_key (table_key name)))))) refl
 attribute_again laws Text name absent range None final ms fit inside none same hex = cc
 attribute_again laws Text name absent range (Some (layout.number n)) final ms fit inside none same hex = cc
 attribute_again laws Text name absent range (Some (layout.bytes b)) final ms fit inside none same hex =
-    rw (text_read laws.texts name b final ms fit (none (rw (self_key name) refl)) same hex) refl
+    rw (text_read laws.texts laws.tables name b final ms fit (none (rw (self_key name) refl)) same (hex (second_true _ _ (second_true _ _ (self_key (table_key name)))))) refl
 attribute_again laws Hex name absent range None final ms fit inside none same hex = cc
 attribute_again laws CountedHex name absent range None final ms fit inside none same hex = cc
 attribute_again laws Hex name absent range (Some (layout.number n)) final ms fit inside none same hex = cc
@@ -315,16 +348,18 @@ attribute_again laws CountedHex name absent range (Some (layout.bytes b)) final 
 
 -- ---- all attributes
 
-one_of : {key name other : List ℕ} (a b : Bool) → bytes_eq key name ≡ a → bytes_eq key other ≡ b
-    → (a || b) ≡ true → (key ≡ name) ⊎ (key ≡ other)
-one_of true b first second is = inl ((bytes_eq-Decides _ _).0 first)
-one_of false b first second is = inr ((bytes_eq-Decides _ _).0 (second ∙ is))
+one_of : {key name other third : List ℕ} (a b c : Bool) → bytes_eq key name ≡ a → bytes_eq key other ≡ b → bytes_eq key third ≡ c
+    → (a || (b || c)) ≡ true → (key ≡ name) ⊎ ((key ≡ other) ⊎ (key ≡ third))
+one_of true b c first second last is = inl ((bytes_eq-Decides _ _).0 first)
+one_of false true c first second last is = inr (inl ((bytes_eq-Decides _ _).0 second))
+one_of false false c first second last is = inr (inr ((bytes_eq-Decides _ _).0 (last ∙ is)))
 
-own_key : (k : Kind) (name key : List ℕ) → is_key_of k name key ≡ true → (key ≡ name) ⊎ (key ≡ hex_key name)
+own_key : (k : Kind) (name key : List ℕ) → is_key_of k name key ≡ true
+    → (key ≡ name) ⊎ ((key ≡ hex_key name) ⊎ (key ≡ table_key name))
 own_key (Ones count) name key is = cc
 own_key (Free count) name key is = cc
-own_key CountedText name key is = one_of (bytes_eq key name) (bytes_eq key (hex_key name)) refl refl is
-own_key Text name key is = one_of (bytes_eq key name) (bytes_eq key (hex_key name)) refl refl is
+own_key CountedText name key is = one_of (bytes_eq key name) (bytes_eq key (hex_key name)) (bytes_eq key (table_key name)) refl refl refl is
+own_key Text name key is = one_of (bytes_eq key name) (bytes_eq key (hex_key name)) (bytes_eq key (table_key name)) refl refl refl is
 own_key (Number count) name key is = inl ((bytes_eq-Decides key name).0 is)
 own_key (Reserved count) name key is = inl ((bytes_eq-Decides key name).0 is)
 own_key (Zeros count) name key is = inl ((bytes_eq-Decides key name).0 is)
@@ -338,25 +373,28 @@ own_key CountedHex name key is = inl ((bytes_eq-Decides key name).0 is)
 
 -- a later row's key differs from those of an earlier row
 pub later_key : (r : Row) (rs : List Row) (key : List ℕ) (own : Bool) → is_key_of r.kind r.name key ≡ own
-    → is_key rs key ≡ true → is_key rs r.name ≡ false → is_key rs (hex_key r.name) ≡ false
+    → is_key rs key ≡ true → is_key rs r.name ≡ false → is_key rs (hex_key r.name) ≡ false → is_key rs (table_key r.name) ≡ false
     → is_key_of r.kind r.name key ≡ false
-later_key r rs key false is later name_not hex_not = is
-later_key r rs key true is later name_not hex_not = elim (own_key r.kind r.name key is) [
+later_key r rs key false is later name_not hex_not table_not = is
+later_key r rs key true is later name_not hex_not table_not = elim (own_key r.kind r.name key is) [
   | inl e ↦ let n = ap (is_key rs) e in cc
-  | inr e ↦ let n = ap (is_key rs) e in cc
+  | inr (inl e) ↦ let n = ap (is_key rs) e in cc
+  | inr (inr e) ↦ let n = ap (is_key rs) e in cc
 ]
 
 -- the first row's keys differ from those of the later rows
 pub record Apart (r : Row) (rs : List Row) : Type 0 where
   pub name : is_key rs r.name ≡ false
   pub hex : is_key rs (hex_key r.name) ≡ false
+  pub table : is_key rs (table_key r.name) ≡ false
   pub rest : keys_differ rs ≡ true
 
 pub apart_of : (r : Row) (rs : List Row) → keys_differ (r ∷ rs) ≡ true → Apart r rs
 apart_of r rs is =
-    let outer = both (not (is_key rs r.name) && not (is_key rs (hex_key r.name))) (keys_differ rs) is in
-    let inner = both (not (is_key rs r.name)) (not (is_key rs (hex_key r.name))) outer.0 in
-    record { name = not_true _ inner.0; hex = not_true _ inner.1; rest = outer.1 }
+    let outer = both (not (is_key rs r.name) && not (is_key rs (hex_key r.name)) && not (is_key rs (table_key r.name))) (keys_differ rs) is in
+    let middle = both (not (is_key rs r.name) && not (is_key rs (hex_key r.name))) (not (is_key rs (table_key r.name))) outer.0 in
+    let inner = both (not (is_key rs r.name)) (not (is_key rs (hex_key r.name))) middle.0 in
+    record { name = not_true _ inner.0; hex = not_true _ inner.1; table = not_true _ middle.1; rest = outer.1 }
 
 pub attributes_again : Laws → (rs : List Row) (values : List Held) (ms : Members) → fits rs values ≡ true
     → are_within rs values ≡ true → keys_differ rs ≡ true
@@ -375,8 +413,9 @@ attributes_again laws (r ∷ rs) values ms fit inside keys none =
     let apart = apart_of r rs keys in
     let here = attribute_again laws k r.name r.absent r.range first (put_attributes rs others now) ms parts.0 ranges.0
     (λ own. none r.name (rw own refl))
-    (rows_kept rs others now r.name apart.name) (rows_kept rs others now (hex_key r.name) apart.hex) in
+    (rows_kept rs others now r.name apart.name)
+    (λ own. (rows_kept rs others now (hex_key r.name) apart.hex, rows_kept rs others now (table_key r.name) apart.table, none (table_key r.name) (rw own refl))) in
     let more = attributes_again laws rs others now parts.1 ranges.1 apart.rest (λ key later.
-    others_kept k r.name first ms key (later_key r rs key (is_key_of k r.name key) refl later apart.name apart.hex)
+    others_kept k r.name first ms key (later_key r rs key (is_key_of k r.name key) refl later apart.name apart.hex apart.table)
     ∙ none key (second_true (is_key_of k r.name key) (is_key rs key) later)) in
     rw (here, more) (ap Ok (first_and_rest k values parts.0))

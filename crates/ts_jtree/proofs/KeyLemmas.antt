@@ -1,6 +1,6 @@
 -- Keys of elements.
 use Rattle.std.proofs.Common.{◌≡◌, ℕ, ◌+◌, ◌<◌, ◌≤◌, Bool, true, false, List, [], ◌∷◌, ◌++◌, length, take, drop, refl, sym, ap, ◌∙◌, get_or}
-use Rattle.std.specs.Prelude.{bytes_eq, codes, not, String, string_bytes, Ok, Err}
+use Rattle.std.specs.Prelude.{bytes_eq, not, String, string_bytes, Ok, Err}
 use Rattle.std.specs.declared.alloc.Global.{Global}
 use Rattle.std.proofs.lemmas.Slice.Eq.{bytes_eq-Decides}
 use Rattle.std.proofs.lemmas.List.{take-append-drop, drop_all}
@@ -13,7 +13,6 @@ use Rattle.ts_fields.specs.Layout.{Row, row, rows_of}
 use Rattle.ts_jtree.specs.declared.fault.JsonKind.TheVariants.{UnknownKey}
 use Rattle.ts_jtree.specs.declared.fault.ReadRefusal.{ReadRefusal}
 use Rattle.ts_jtree.specs.declared.fault.ReadRefusal.TheVariants.{Json, NoMemory}
-use Rattle.ts_jtree.specs.Attributes.{hex_key}
 use Rattle.ts_jtree.specs.Elements.{names_field, names_some, is_known, keys_known}
 use Rattle.ts_jtree.specs.Faults.{Reading, Stops, IsRefusal}
 use Rattle.ts_jtree.proofs.RowLemmas.{rows_left}
@@ -22,26 +21,26 @@ differ_by : (xs ys : List ℕ) (b : Bool) → bytes_eq xs ys ≡ b → (xs ≡ y
 differ_by xs ys true e other = absurd (other ((bytes_eq-Decides xs ys).0 e))
 differ_by xs ys false e other = refl
 
-other_front : (key name : List ℕ) → (take (length name) key ≡ name → ⊥) → false ≡ bytes_eq key (hex_key name)
-other_front key name other = sym (differ_by key (hex_key name) _ refl (λ same.
-    other (ap (take (length name)) same ∙ take-append_seam name (codes "_hex"))))
+other_front : (key name word : List ℕ) → (take (length name) key ≡ name → ⊥) → false ≡ bytes_eq key (name ++ word)
+other_front key name word other = sym (differ_by key (name ++ word) _ refl (λ same.
+    other (ap (take (length name)) same ∙ take-append_seam name word)))
 
-same_front : (key name : List ℕ) (b : Bool) → take (length name) key ≡ name
-    → bytes_eq (drop (length name) key) (codes "_hex") ≡ b → b ≡ bytes_eq key (hex_key name)
-same_front key name true front back =
-    let joined : key ≡ hex_key name =
+same_front : (key name word : List ℕ) (b : Bool) → take (length name) key ≡ name
+    → bytes_eq (drop (length name) key) word ≡ b → b ≡ bytes_eq key (name ++ word)
+same_front key name word true front back =
+    let joined : key ≡ (name ++ word) =
     sym (take-append-drop (length name) key) ∙ ap (λ l. l ++ drop (length name) key) front
-    ∙ ap (λ l. name ++ l) ((bytes_eq-Decides (drop (length name) key) (codes "_hex")).0 back) in
-    sym ((bytes_eq-Decides key (hex_key name)).1 joined)
-same_front key name false front back =
-    sym (differ_by key (hex_key name) _ refl (λ same.
-    let e : drop (length name) key ≡ codes "_hex" = ap (drop (length name)) same ∙ drop-append_seam name (codes "_hex") in
-    let t = (bytes_eq-Decides (drop (length name) key) (codes "_hex")).1 e in cc))
+    ∙ ap (λ l. name ++ l) ((bytes_eq-Decides (drop (length name) key) word).0 back) in
+    sym ((bytes_eq-Decides key (name ++ word)).1 joined)
+same_front key name word false front back =
+    sym (differ_by key (name ++ word) _ refl (λ same.
+    let e : drop (length name) key ≡ word = ap (drop (length name)) same ∙ drop-append_seam name word in
+    let t = (bytes_eq-Decides (drop (length name) key) word).1 e in cc))
 
 -- a key that begins otherwise than the name, and one that begins with it
-pub front_differs : (key name front name_bytes : List ℕ) → front ≡ take (length name) key → name_bytes ≡ name
-    → true ≡ not (bytes_eq front name_bytes) → false ≡ bytes_eq key (hex_key name)
-front_differs key name front name_bytes front_is name_is apart = other_front key name (λ same.
+pub front_differs : (key name word front name_bytes : List ℕ) → front ≡ take (length name) key → name_bytes ≡ name
+    → true ≡ not (bytes_eq front name_bytes) → false ≡ bytes_eq key (name ++ word)
+front_differs key name word front name_bytes front_is name_is apart = other_front key name word (λ same.
     let equal = (bytes_eq-Decides front name_bytes).1 (front_is ∙ same ∙ sym name_is) in
     let e : true ≡ not true = apart ∙ ap not equal in cc)
 
@@ -49,12 +48,12 @@ not_false : (b : Bool) → false ≡ not b → b ≡ true
 not_false true is = refl
 not_false false is = cc
 
-pub front_agrees : (key name front name_bytes back word : List ℕ) (b : Bool) → front ≡ take (length name) key
+pub front_agrees : (key name suffix front name_bytes back word : List ℕ) (b : Bool) → front ≡ take (length name) key
     → name_bytes ≡ name → false ≡ not (bytes_eq front name_bytes) → back ≡ drop (length name) key
-    → word ≡ codes "_hex" → b ≡ bytes_eq back word → b ≡ bytes_eq key (hex_key name)
-front_agrees key name front name_bytes back word b front_is name_is alike back_is word_is b_is =
+    → word ≡ suffix → b ≡ bytes_eq back word → b ≡ bytes_eq key (name ++ suffix)
+front_agrees key name suffix front name_bytes back word b front_is name_is alike back_is word_is b_is =
     let equal : front ≡ name_bytes = (bytes_eq-Decides front name_bytes).0 (not_false (bytes_eq front name_bytes) alike) in
-    same_front key name b (sym front_is ∙ equal ∙ name_is) (sym (b_is ∙ rw (back_is, word_is) refl))
+    same_front key name suffix b (sym front_is ∙ equal ∙ name_is) (sym (b_is ∙ rw (back_is, word_is) refl))
 
 -- the rows one after another: the next names the key, or does not, or there is none
 pub named_here : (fields : List Field) (i : ℕ) (d : Field) (ms : Members) (key : List ℕ) (whole : Bool)

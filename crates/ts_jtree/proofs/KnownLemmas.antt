@@ -1,6 +1,6 @@
 -- An element that is shown has its name, only known keys, its values and its children.
 use Rattle.std.proofs.Common.{◌≡◌, ℕ, Bool, true, false, List, [], ◌∷◌, drop, refl, ap, ◌∙◌, Ordering, Less, Equal, Greater}
-use Rattle.std.specs.Prelude.{nat_eq, Option, Some, None, Ok, Err, slice_get, bytes_eq, not, ◌&&◌, if◌then◌else◌}
+use Rattle.std.specs.Prelude.{nat_eq, Option, Some, None, Ok, Err, slice_get, bytes_eq, not, ◌&&◌, if◌then◌else◌, is_none}
 use Rattle.std.specs.Ordering.{nat_cmp, match_ordering}
 use Rattle.std.specs.Cmp.Lexicographic.{slice_cmp}
 use Rattle.hex.specs.Hex.{encode_lower}
@@ -13,12 +13,13 @@ use Rattle.ts_fields.specs.Layout as layout
 use Rattle.ts_fields.specs.Layout.{Row, Held}
 use Rattle.ts_fields.specs.Spelling.{holds}
 use Rattle.ts_fields.specs.Texts.{text_of}
+use Rattle.ts_charsets.specs.TextTables.{tabled_text}
 use Rattle.ts_jtree.specs.declared.fault.JsonFault.{JsonFault}
-use Rattle.ts_jtree.specs.Attributes.{hex_key}
+use Rattle.ts_jtree.specs.Attributes.{hex_key, table_key}
 use Rattle.ts_jtree.specs.Elements.{is_known, keys_known, name_key, name_of, names_field, names_some, names_text, nodes_key}
 use Rattle.ts_jtree.specs.Faults.{Reading}
 use Rattle.ts_jtree.specs.Shown.{are_ones, element_base, element_members, is_key, is_key_of, keys_differ, put_attribute, put_attributes, put_text_of, rows_show}
-use Rattle.ts_jtree.proofs.AgainLemmas.{apart_of, differ, later_key, longer, others_kept, rows_kept, self_key}
+use Rattle.ts_jtree.proofs.AgainLemmas.{apart_of, differ, later_key, longer, others_kept, rows_kept, self_key, table_longer}
 use Rattle.ts_jtree.proofs.RowLemmas.{both, first_true, not_true, second_true}
 
 -- ---- members that are put are known
@@ -50,13 +51,18 @@ known_put rs ms key v (member l e ns) known so_far =
 abbrev Names : List Row → Members → Kind → List ℕ → Type 0
 Names rs ms k name = (key : List ℕ) → names_field k name ms key ≡ true → is_known rs ms key ≡ true
 
-known_text : (shown : Option (List ℕ)) (rs : List Row) (ms : Members) (name b : List ℕ) (ns : Members)
+known_text : (shown : Option (List ℕ)) (tabled : Option (List ℕ × List ℕ)) (rs : List Row) (ms : Members) (name b : List ℕ) (ns : Members)
     → ((key : List ℕ) → names_text name ms key ≡ true → is_known rs ms key ≡ true) → get_member name ns ≡ None
-    → get_member name ms ≡ get_member name (put_text_of shown name b ns) → keys_known rs ms ns ≡ Ok []
-    → keys_known rs ms (put_text_of shown name b ns) ≡ Ok []
-known_text (Some text) rs ms name b ns names none same so_far =
+    → get_member name ms ≡ get_member name (put_text_of shown tabled name b ns) → keys_known rs ms ns ≡ Ok []
+    → keys_known rs ms (put_text_of shown tabled name b ns) ≡ Ok []
+known_text (Some text) tabled rs ms name b ns names none same so_far =
     known_put rs ms name (string text) ns (names name (rw (self_key name) refl)) so_far
-known_text None rs ms name b ns names none same so_far =
+known_text None (Some x) rs ms name b ns names none same so_far =
+    let there : get_member name ms ≡ Some (string x.1) = same ∙ get_member-put_other name (table_key name) (string x.0) (put name (string x.1) ns) (table_longer name) ∙ get_member-put name (string x.1) ns in
+    let named : names_text name ms (table_key name) ≡ true = second_true (bytes_eq (table_key name) name) _ (second_true (bytes_eq (table_key name) (hex_key name) && is_none (get_member name ms)) _ (rw (self_key (table_key name), there) refl)) in
+    known_put rs ms (table_key name) (string x.0) (put name (string x.1) ns) (names (table_key name) named)
+    (known_put rs ms name (string x.1) ns (names name (rw (self_key name) refl)) so_far)
+known_text None None rs ms name b ns names none same so_far =
     let absent : get_member name ms ≡ None = same ∙ get_member-put_other name (hex_key name) (string (encode_lower b)) ns (longer name) ∙ none in
     let named : names_text name ms (hex_key name) ≡ true = second_true (bytes_eq (hex_key name) name) _ (rw (self_key (hex_key name), absent) refl) in
     known_put rs ms (hex_key name) (string (encode_lower b)) ns (names (hex_key name) named) so_far
@@ -108,11 +114,11 @@ known_attribute rs ms Language name (Some (layout.bytes b)) ns names none same s
 known_attribute rs ms CountedText name None ns names none same so_far = so_far
 known_attribute rs ms CountedText name (Some (layout.number n)) ns names none same so_far = so_far
 known_attribute rs ms CountedText name (Some (layout.bytes b)) ns names none same so_far =
-    known_text (text_of b) rs ms name b ns names (none (rw (self_key name) refl)) (same (rw (self_key name) refl)) so_far
+    known_text (text_of b) (tabled_text b) rs ms name b ns names (none (rw (self_key name) refl)) (same (rw (self_key name) refl)) so_far
 known_attribute rs ms Text name None ns names none same so_far = so_far
 known_attribute rs ms Text name (Some (layout.number n)) ns names none same so_far = so_far
 known_attribute rs ms Text name (Some (layout.bytes b)) ns names none same so_far =
-    known_text (text_of b) rs ms name b ns names (none (rw (self_key name) refl)) (same (rw (self_key name) refl)) so_far
+    known_text (text_of b) (tabled_text b) rs ms name b ns names (none (rw (self_key name) refl)) (same (rw (self_key name) refl)) so_far
 known_attribute rs ms Hex name None ns names none same so_far = so_far
 known_attribute rs ms CountedHex name None ns names none same so_far = so_far
 known_attribute rs ms Hex name (Some (layout.number n)) ns names none same so_far = so_far
@@ -142,7 +148,7 @@ known_rows all final (r ∷ rs) values ns keys names none same so_far =
     (λ own. same r.name (first_true _ _ own) ∙ rows_kept rs others now r.name apart.name) so_far in
     known_rows all final rs others now apart.rest (λ key is. names key (second_true _ _ is))
     (λ key later.
-    others_kept k r.name first ns key (later_key r rs key (is_key_of k r.name key) refl later apart.name apart.hex)
+    others_kept k r.name first ns key (later_key r rs key (is_key_of k r.name key) refl later apart.name apart.hex apart.table)
     ∙ none key (second_true (is_key_of k r.name key) (is_key rs key) later))
     (λ key later. same key (second_true (is_key_of k r.name key) (is_key rs key) later)) here
 

@@ -1,10 +1,14 @@
 -- Worked rows: the definitions computed.
 use Rattle.std.proofs.Common.{◌≡◌, ◌∷◌, [], true, negsuc, refl}
-use Rattle.std.specs.Prelude.{codes, Some, None, Err}
+use Rattle.std.specs.Prelude.{codes, Some, None, Ok, Err}
 use Rattle.serde_json.specs.Data.{boolean, member, negative, no_members, null, number, object, string, unsigned}
+use Rattle.std.specs.Str.{chars}
+use lib.Utf8.{encode}
+use Rattle.ts_charsets.specs.AlphabetTexts.{bytes_in}
+use Rattle.ts_charsets.specs.TextTables.{bytes_by_table, table_named}
 use Rattle.ts_fields.specs.declared.field.Kind.TheVariants.{Number, Text}
-use Rattle.ts_jtree.specs.declared.fault.JsonKind.TheVariants.{OutOfRange, UnknownKey}
-use Rattle.ts_jtree.specs.Attributes.{attribute_of, number_attribute, number_in, read_attributes}
+use Rattle.ts_jtree.specs.declared.fault.JsonKind.TheVariants.{OutOfRange, UnknownKey, WrongKind}
+use Rattle.ts_jtree.specs.Attributes.{attribute_of, number_attribute, number_in, read_attributes, text_attribute}
 use Rattle.ts_jtree.specs.Elements.{keys_known, name_of, read_element}
 use Rattle.ts_jtree.specs.Faults.{fault_of}
 use Rattle.ts_jtree.specs.Numbers.{bit_of, number_of, number_of_text}
@@ -61,3 +65,26 @@ both-row : read_element (codes "e") (record { name = codes "k"; kind = Text; abs
     ≡ Err (fault_of (codes "k_hex") UnknownKey)
 unfolding read_element name_of keys_known
 both-row = refl
+
+-- a table without a text is one too
+table-row : read_element (codes "e") (record { name = codes "k"; kind = Text; absent = None; range = None } ∷ [])
+    (object (member (codes "#name") (string (codes "e")) (member (codes "k_table") (string (codes "UTF-8")) no_members)))
+    ≡ Err (fault_of (codes "k_table") UnknownKey)
+unfolding read_element name_of keys_known
+table-row = refl
+
+-- U+00FC in ISO 8859-9, in a table that is unknown, and in one that lacks it
+in-table : text_attribute (codes "k") (member (codes "k") (string (0xC3 ∷ 0xBC ∷ [])) (member (codes "k_table") (string (codes "ISO-8859-9")) no_members))
+    ≡ Ok (0x05 ∷ 0xFC ∷ [])
+unfolding text_attribute bytes_by_table bytes_in chars encode table_named
+in-table = refl
+
+unknown-table : text_attribute (codes "k") (member (codes "k") (string (0xC3 ∷ 0xBC ∷ [])) (member (codes "k_table") (string (codes "Latin-1")) no_members))
+    ≡ Err (fault_of (codes "k_table") WrongKind)
+unfolding text_attribute table_named
+unknown-table = refl
+
+no-character : text_attribute (codes "k") (member (codes "k") (string (0xC3 ∷ 0xBC ∷ [])) (member (codes "k_table") (string (codes "ISO-8859-5")) no_members))
+    ≡ Err (fault_of (codes "k") OutOfRange)
+unfolding text_attribute bytes_by_table bytes_in chars encode table_named
+no-character = refl

@@ -11,6 +11,7 @@ use Rattle.ts_fields.specs.Layout as rows
 use Rattle.ts_fields.specs.Layout.{Row, Held}
 use Rattle.ts_fields.specs.Reading.{are_printable}
 use Rattle.ts_fields.specs.Texts.{text_bytes}
+use Rattle.ts_charsets.specs.TextTables.{bytes_by_table, table_named}
 use Rattle.ts_days.specs.TimeTexts.{start_of, time_of}
 use Rattle.ts_jtree.specs.declared.fault.JsonKind.TheVariants.{Missing, WrongKind, OutOfRange}
 use Rattle.ts_jtree.specs.Faults.{Reading, refuse, or_refuse, ◌>>=◌}
@@ -99,12 +100,24 @@ data_attribute range key ms = do
 abbrev pub hex_key : List ℕ → List ℕ
 hex_key key = key ++ codes "_hex"
 
+-- the key for the name of a text's character table
+abbrev pub table_key : List ℕ → List ℕ
+table_key key = key ++ codes "_table"
+
+-- the bytes of a text in the table that is named, or by the rule for texts without a table
+abbrev pub tabled_at : List ℕ → List ℕ → Option Data → Reading (List ℕ)
+tabled_at key text None = Ok (text_bytes text)
+tabled_at key text (Some value) = do
+  name ← or_refuse (as_str value) (table_key key) WrongKind
+  t ← or_refuse (table_named name) (table_key key) WrongKind
+  or_refuse (bytes_by_table t text) key OutOfRange
+
 -- the bytes of the text at a key, or else those at its key for bytes
 abbrev pub text_or_hex : List ℕ → Members → Option Data → Reading (List ℕ)
 text_or_hex key ms None = hex_attribute (hex_key key) ms
 text_or_hex key ms (Some value) = do
   text ← or_refuse (as_str value) key WrongKind
-  Ok (text_bytes text)
+  tabled_at key text (get_member (table_key key) ms)
 
 -- the bytes of a text attribute, or else those at its key for bytes
 unfoldable pub text_attribute : List ℕ → Members → Reading (List ℕ)

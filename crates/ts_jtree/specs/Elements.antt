@@ -1,7 +1,7 @@
 -- Elements: objects with a name, attributes and children.
 -- This project's own rule: an element is checked in the order of its steps, one line of `read_element` each, and
 -- the first fault is reported.
-use Rattle.std.specs.Prelude.{ℕ, ◌&&◌, ◌||◌, List, [], ◌∷◌, codes, Bool, false, is_none, bytes_eq, if◌then◌else◌, Option, Some, None, Ok}
+use Rattle.std.specs.Prelude.{ℕ, ◌&&◌, ◌||◌, List, [], ◌∷◌, codes, Bool, false, not, is_none, bytes_eq, if◌then◌else◌, Option, Some, None, Ok}
 use Rattle.serde_json.specs.Data.{Data, Items, no_items, item, Members, no_members, member}
 use Rattle.serde_json.specs.Find.{get_member, as_object, as_str, as_array}
 use Rattle.ts_fields.specs.declared.field.Kind.{Kind}
@@ -9,7 +9,7 @@ use Rattle.ts_fields.specs.declared.field.Kind.TheVariants.{Ones, Free, CountedT
 use Rattle.ts_fields.specs.Layout.{Row, Held}
 use Rattle.ts_jtree.specs.declared.fault.JsonKind.TheVariants.{Missing, WrongKind, UnknownKey}
 use Rattle.ts_jtree.specs.Faults.{Reading, refuse, or_refuse, at_child, ◌>>=◌}
-use Rattle.ts_jtree.specs.Attributes.{hex_key, read_attributes}
+use Rattle.ts_jtree.specs.Attributes.{hex_key, table_key, read_attributes}
 
 -- the key of an element's name
 abbrev pub name_key : List ℕ
@@ -33,10 +33,12 @@ name_of ms = do
 abbrev pub named : List ℕ → List ℕ → Reading (List ℕ)
 named wanted name = if bytes_eq name wanted then Ok [] else refuse name_key UnknownKey
 
--- the key of a text, and where that is absent the key of its bytes
+-- the key of a text, and with it the key of its table, or where it is absent the key of its bytes
 abbrev pub names_text : List ℕ → Members → List ℕ → Bool
 names_text name ms key =
-    bytes_eq key name || (bytes_eq key (hex_key name) && is_none (get_member name ms))
+    bytes_eq key name
+    || ((bytes_eq key (hex_key name) && is_none (get_member name ms))
+    || (bytes_eq key (table_key name) && not (is_none (get_member name ms))))
 
 -- the keys of a field; reserved bits have none
 abbrev pub names_field : Kind → List ℕ → Members → List ℕ → Bool

@@ -1,7 +1,7 @@
 -- How elements are written.
 -- This project's own rule: every attribute is written, defaults too, but not reserved bits that are as usual; numbers
--- are numbers, flags Booleans, bytes lower case hexadecimal digits, and a text that JSON cannot show is written only as
--- its bytes.
+-- are numbers, flags Booleans, bytes lower case hexadecimal digits; a text that its bytes alone do not tell is written
+-- with the name of its table, and one that has a byte without a character only as its bytes.
 use Rattle.std.specs.Prelude.{ℕ, ◌-◌, ◌^◌, ◌&&◌, ◌||◌, nat_lt, if◌then◌else◌, List, [], ◌∷◌, drop, length, Bool, true, false, not, bytes_eq, nat_eq, slice_get, Option, Some, None}
 use Rattle.hex.specs.Hex.{encode_lower}
 use Rattle.serde_json.specs.Data.{Data, boolean, string, number, unsigned, Members, no_members, put}
@@ -12,8 +12,9 @@ use Rattle.ts_fields.specs.Layout.{Row, Held}
 use Rattle.ts_fields.specs.Reading.{are_printable}
 use Rattle.ts_fields.specs.Spelling.{holds}
 use Rattle.ts_fields.specs.Texts.{text_of}
+use Rattle.ts_charsets.specs.TextTables.{tabled_text}
 use Rattle.ts_days.specs.TimeTexts.{start_text, time_text}
-use Rattle.ts_jtree.specs.Attributes.{hex_key, within}
+use Rattle.ts_jtree.specs.Attributes.{hex_key, table_key, within}
 use Rattle.ts_jtree.specs.Elements.{name_key, nodes_key}
 
 -- the members with a number as it is shown; without one, as they are
@@ -42,14 +43,16 @@ put_unless usual (Some (rows.bytes b)) key ms = ms
 abbrev pub put_hex : List ℕ → List ℕ → Members → Members
 put_hex key b ms = put key (string (encode_lower b)) ms
 
--- a text, or else its bytes at the key for bytes
-abbrev pub put_text_of : Option (List ℕ) → List ℕ → List ℕ → Members → Members
-put_text_of (Some text) key b ms = put key (string text) ms
-put_text_of None key b ms = put_hex (hex_key key) b ms
+-- a text; or a text in a table, with the table's name; or else its bytes at the key for bytes
+abbrev pub put_text_of : Option (List ℕ) → Option (List ℕ × List ℕ) → List ℕ → List ℕ → Members → Members
+put_text_of (Some text) tabled key b ms = put key (string text) ms
+put_text_of None (Some x) key b ms = put (table_key key) (string x.0) (put key (string x.1) ms)
+put_text_of None None key b ms = put_hex (hex_key key) b ms
 
--- the bytes of a text, as a text where JSON can show it, or else at the key for bytes
+-- the bytes of a text: as a text where they are one by themselves, or else in the table that they select, or else at the
+-- key for bytes
 abbrev pub put_text : List ℕ → List ℕ → Members → Members
-put_text key b ms = put_text_of (text_of b) key b ms
+put_text key b ms = put_text_of (text_of b) (tabled_text b) key b ms
 
 -- the members with the attribute of a field of this kind and name; reserved bits have none
 unfoldable pub put_attribute : Kind → List ℕ → Option Held → Members → Members
@@ -88,8 +91,8 @@ are_shown (r ∷ rs) values = is_shown r.kind (slice_get values 0) && are_shown 
 abbrev pub is_key_of : Kind → List ℕ → List ℕ → Bool
 is_key_of (Ones count) name key = false
 is_key_of (Free count) name key = false
-is_key_of CountedText name key = bytes_eq key name || bytes_eq key (hex_key name)
-is_key_of Text name key = bytes_eq key name || bytes_eq key (hex_key name)
+is_key_of CountedText name key = bytes_eq key name || (bytes_eq key (hex_key name) || bytes_eq key (table_key name))
+is_key_of Text name key = bytes_eq key name || (bytes_eq key (hex_key name) || bytes_eq key (table_key name))
 is_key_of _ name key = bytes_eq key name
 
 -- the keys that the fields of some rows may be written under
@@ -100,7 +103,8 @@ is_key (r ∷ rs) key = is_key_of r.kind r.name key || is_key rs key
 -- no row has a key of an earlier one
 abbrev pub keys_differ : List Row → Bool
 keys_differ [] = true
-keys_differ (r ∷ rs) = not (is_key rs r.name) && not (is_key rs (hex_key r.name)) && keys_differ rs
+keys_differ (r ∷ rs) =
+    not (is_key rs r.name) && not (is_key rs (hex_key r.name)) && not (is_key rs (table_key r.name)) && keys_differ rs
 
 -- a number, or the number of some bytes, in a row's range
 abbrev pub value_within : Option (ℕ × ℕ) → Option Held → Bool

@@ -15,6 +15,7 @@ use crate::fault::{JsonKind, ReadRefusal, refuse_key};
 use crate::number::{number_of_value, truth_of_value};
 use serde_json::{Map, Value};
 use std::alloc::{AllocError, AllocFailed, Global};
+use ts_charsets::{bytes_by_table, text_table_named};
 use ts_days::{start_of, time_of};
 use ts_fields::{Field, FieldValue, Kind, are_printable, text_bytes};
 
@@ -245,7 +246,42 @@ fn read_text(alloc: Global, members: &Map<String, Value>, key: &str) -> Result<V
     let Some(text) = value.as_str() else {
         return Err(refuse_key(alloc, key, JsonKind::WrongKind));
     };
-    Ok(text_bytes(alloc, text)?)
+    read_tabled(alloc, members, key, text)
+}
+
+/// The bytes of a text in the table that is named, or by the rule for texts without a table.
+fn read_tabled(
+    alloc: Global,
+    members: &Map<String, Value>,
+    key: &str,
+    text: &str,
+) -> Result<Vec<u8>, ReadRefusal>
+    ensures { Answers (λ b. b.items) result (Attributes.tabled_at key.now text.now
+        (get_member (Attributes.table_key key.now) (members_view members.now.entries))) }
+{
+    let table_key = table_key(alloc, key)?;
+    let Some(value) = member(members, &table_key) else {
+        return Ok(text_bytes(alloc, text)?);
+    };
+    let Some(name) = value.as_str() else {
+        return Err(refuse_key(alloc, &table_key, JsonKind::WrongKind));
+    };
+    let Some(table) = text_table_named(name) else {
+        return Err(refuse_key(alloc, &table_key, JsonKind::WrongKind));
+    };
+    match bytes_by_table(alloc, table, text)? {
+        Some(bytes) => Ok(bytes),
+        None => Err(refuse_key(alloc, key, JsonKind::OutOfRange)),
+    }
+}
+
+/// The key for the name of a text's character table.
+pub(crate) fn table_key(alloc: Global, key: &str) -> Result<String, AllocError>
+    ensures { IfOk result (λ text. string_bytes text ≡ Attributes.table_key key.now) }
+{
+    let mut table_key = String::from_str(alloc, key)?;
+    table_key.push_str("_table")?;
+    Ok(table_key)
 }
 
 /// The key for the bytes of a text that JSON cannot show.

@@ -107,6 +107,7 @@ fn is_field_key(field: &Field, members: &Map<String, Value>, key: &str) -> bool
         Kind::CountedText | Kind::Text => {
             key == field.name
                 || (is_hex_key(field.name, key) && member(members, field.name).is_none())
+                || (is_table_key(field.name, key) && !member(members, field.name).is_none())
         }
         _ => key == field.name,
     }
@@ -125,6 +126,21 @@ fn is_hex_key(name: &str, key: &str) -> bool
         return false;
     }
     back == b"_hex".as_slice()
+}
+
+/// Whether a key is the one for the table of the text with this name.
+fn is_table_key(name: &str, key: &str) -> bool
+    ensures { result ≡ bytes_eq key.now (Attributes.table_key name.now) }
+{
+    let key = key.as_bytes();
+    if key.len() < name.len() {
+        return false;
+    }
+    let (front, back) = key.split_at(name.len());
+    if front != name.as_bytes() {
+        return false;
+    }
+    back == b"_table".as_slice()
 }
 
 /// The children of an element, none where `#nodes` is absent: `WrongKind` on `#nodes` where it is not an array.

@@ -9,6 +9,7 @@ ghost use Rattle.ts_jtree.specs.Attributes.{read_attributes};
 ghost use Rattle.ts_jtree.specs.Elements.{name_of, keys_known, nodes_key};
 ghost use Rattle.ts_jtree.specs.Shown.{put_attributes, are_within, are_shown, keys_differ, is_key, rows_show, element_members};
 
+use ts_charsets::tabled_texts_tell_bytes;
 use ts_days::texts_tell_numbers;
 use ts_fields::texts_tell_bytes;
 
@@ -20,6 +21,7 @@ pub fn shown_is_read()
         → read_attributes rs (put_attributes rs values ms) ≡ Ok values }
 {
     texts_tell_bytes();
+    tabled_texts_tell_bytes();
     texts_tell_numbers();
 }
 

@@ -1,6 +1,6 @@
 //! Writing elements.
 
-ghost use Rattle.std.specs.Prelude.{◌≡◌, map, slice_get, option_map, IfOk, OnOk, Some, true};
+ghost use Rattle.std.specs.Prelude.{◌≡◌, map, slice_get, option_map, IfOk, OnOk, Some, None, true};
 ghost use Rattle.hex.specs.Hex.{encode_lower};
 ghost use Rattle.serde_json.specs.Data.{object, put, string};
 ghost use Rattle.serde_json.specs.View.{view, members_view};
@@ -8,14 +8,16 @@ ghost use Rattle.ts_fields.specs.Layout.{held, row, rows_of};
 ghost use Rattle.ts_fields.specs.Layout as rows;
 ghost use Rattle.ts_days.specs.TimeTexts;
 ghost use Rattle.ts_fields.specs.Reading;
+ghost use Rattle.ts_charsets.specs.TextTables.{tabled_text};
 ghost use Rattle.ts_jtree.specs.Shown;
 ghost use Rattle.ts_jtree.specs.Elements.{name_key};
 ghost use Rattle.ts_jtree.specs.Shown.{element_members, put_attribute, put_attributes, put_nodes};
 
-use crate::attribute::hex_key;
+use crate::attribute::{hex_key, table_key};
 use crate::element::{NAME, NODES};
 use serde_json::{Map, Value};
 use std::alloc::{AllocError, Global};
+use ts_charsets::tabled_text;
 use ts_days::{start_text, time_text};
 use ts_fields::{Field, FieldValue, Kind, text_of};
 
@@ -99,7 +101,8 @@ fn put_start(
     put_member(alloc, members, key, Value::String(text))
 }
 
-/// Puts the bytes of a text at a key as a text, or else at the key for bytes.
+/// Puts the bytes of a text at a key: as a text where they are one by themselves, or else in the table that they select,
+/// or else at the key for bytes.
 fn put_text_or_hex(
     alloc: Global,
     members: &mut Map<String, Value>,
@@ -109,11 +112,29 @@ fn put_text_or_hex(
     ensures { OnOk result (members_view members.new.entries
         ≡ Shown.put_text key.now bytes.now (members_view members.old.entries)) }
 {
-    let Some(text) = text_of(bytes) else {
+    if let Some(text) = text_of(bytes) {
+        return put_text(alloc, members, key, text);
+    }
+    put_tabled_or_hex(alloc, members, key, bytes)
+}
+
+/// Puts bytes that are no text by themselves: in the table that they select, or else at the key for bytes.
+fn put_tabled_or_hex(
+    alloc: Global,
+    members: &mut Map<String, Value>,
+    key: &str,
+    bytes: &[u8],
+) -> Result<(), AllocError>
+    ensures { OnOk result (members_view members.new.entries
+        ≡ Shown.put_text_of None (tabled_text bytes.now) key.now bytes.now (members_view members.old.entries)) }
+{
+    let Some((name, text)) = tabled_text(alloc, bytes)? else {
         let hex_key = hex_key(alloc, key)?;
         return put_hex(alloc, members, &hex_key, bytes);
     };
-    put_text(alloc, members, key, text)
+    let table_key = table_key(alloc, key)?;
+    put_member(alloc, members, key, Value::String(text))?;
+    put_text(alloc, members, &table_key, name)
 }
 
 /// Puts the attribute of a field with this number.

@@ -1,0 +1,6 @@
+pub mod SpellingLemmas
+pub mod LoopLemmas
+pub mod TableLemmas
+pub mod OnceLemmas
+pub mod ScreenLemmas
+mod Rows
