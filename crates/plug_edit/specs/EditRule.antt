@@ -1,13 +1,16 @@
 -- The rule of an editor of the tables of one PID.
 -- This project's own rule, over the cycles of edited contents: null packets, on PID 8191, are never taken.
-use Rattle.std.specs.Prelude.{ℕ, ◌&&◌, Bool, List, nat_eq, nat_lt, if◌then◌else◌}
+use Rattle.std.specs.Prelude.{ℕ, ◌&&◌, Bool, List, [], ◌∷◌, ◌++◌, nat_eq, nat_lt, if◌then◌else◌}
 use Rattle.ts_packet.specs.declared.cell.Cell.{Cell}
 use Rattle.ts_packet.specs.declared.numbers.TheConstants.{NULL_PID}
 use Rattle.ts_packet.specs.Cells.{live_packets}
 use Rattle.ts_packet.specs.Header.{pid_of}
+use Rattle.ts_demux.specs.TablesOn.{tables_on}
 use Rattle.ts_demux.specs.TakenWhere.{taken_on}
 use Rattle.chain_model.specs.PluginRule.{PluginRule, passes}
+use Rattle.plugin_trait.specs.Finding.{finds_none}
 use Rattle.plugin_trait.specs.SilentRule.{silent_rule}
+use Rattle.plug_psi.specs.AlteredTables.{alters_one}
 use Rattle.plug_psi.specs.Edits.{Change}
 use Rattle.plug_psi.specs.EditedCycles.{replaced}
 
@@ -23,7 +26,16 @@ takes pid packets = nat_lt pid NULL_PID
 abbrev pub taken_of : ℕ → List Cell → List (List ℕ)
 taken_of pid history = taken_on takes pid (live_packets history)
 
--- a taken packet is replaced by that of the cycle of the edited contents, and all other packets pass
+-- a packet is taken with which, or before which, a table was complete that the edit alters
+abbrev pub finds_altered : ℕ → (List (List ℕ) → Change) → List Cell → List ℕ → ℕ → Bool
+finds_altered pid edit history packet labels =
+    is_taken pid packet && alters_one edit (tables_on pid (taken_of pid history ++ packet ∷ []))
+
+-- A taken packet is replaced by that of the cycle of the edited contents, and all other packets pass. A run has a fault in
+-- which no complete table came that the edit alters.
 abbrev pub edit_rule : ℕ → (List (List ℕ) → Change) → PluginRule
-edit_rule pid edit = silent_rule (λ history packet.
-    passes (if is_taken pid packet then replaced pid edit (taken_of pid history) packet else packet))
+edit_rule pid edit =
+    record (silent_rule (λ history packet.
+    passes (if is_taken pid packet then replaced pid edit (taken_of pid history) packet else packet))) {
+      has_fault = finds_none (finds_altered pid edit);
+    }

@@ -17,6 +17,7 @@ pub mod NitEdit
 pub use Rattle.plug_psi.specs.TableChange
 pub mod Changes
 pub mod EditRule
+pub mod EditState
 pub mod EditWords
 pub mod PatWords
 pub mod CatWords

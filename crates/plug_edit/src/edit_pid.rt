@@ -3,11 +3,12 @@
 //! On PID 8191 the editor is made all the same, for PID 0, so that its type needs no case without one; it is never
 //! asked.
 
-ghost use Rattle.std.specs.Prelude.{◌≡◌, ◌≤◌, [], None, IfOk};
+ghost use Rattle.std.specs.Prelude.{◌≡◌, ◌≤◌, ◌<◌, [], None, IfOk};
+ghost use Rattle.plug_psi.specs.EditorStands.{StandsFor, edit_of};
 ghost use Rattle.plug_edit.specs.EditRule.{edit_rule};
 
 use plug_psi::{Changes, Editor, TableEdit, Unedited};
-use plugin_trait::{Outcome, Plugin, Silent, Steps};
+use plugin_trait::{FirstFind, Outcome, Plugin, Silent, Steps};
 use std::alloc::{AllocError, Global};
 use ts_packet::{Labels, NULL_PID, Packet};
 
@@ -19,13 +20,14 @@ pub struct EditPidSteps<E: TableEdit + Drop> {
     pid: u16,
     /// It is not used if the PID is that of null packets.
     editor: Editor<E>,
+    /// The first position at which a table was complete of which the edit makes other sections, or none.
+    found: FirstFind,
 }
 
 /// Replaces the packets of a PID by packets of cycles of the PID's edited contents.
 pub type EditPid<E> = Silent<EditPidSteps<E>>;
 
 /// A new plugin, which has processed no packet. On PID 8191 nothing is edited.
-#[tactic(auto, unfolding(ts_demux::specs::TakenWhere::taken_after))]
 pub fn new_edit_pid<E: TableEdit + Drop>(
     alloc: Global,
     pid: u16,
@@ -36,13 +38,24 @@ pub fn new_edit_pid<E: TableEdit + Drop>(
     ensures fresh { IfOk result (λ plugin. ⟦<EditPid<E> as Plugin>⟧.stands_for plugin [] 0) }
     ensures preallocated { IfOk result (λ plugin. ⟦<EditPid<E> as Plugin>⟧.preallocated plugin ≡ None) }
 {
-    let edited = if pid < NULL_PID { pid } else { 0 };
+    let editor = editor_on(alloc, pid, edit)?;
     Ok(Silent {
         steps: EditPidSteps {
             pid,
-            editor: Editor::new(alloc, edited, edit)?,
+            editor,
+            found: FirstFind::none(),
         },
     })
+}
+
+/// A new editor of a PID, or one that is not used if the PID is that of null packets.
+fn editor_on<E: TableEdit + Drop>(alloc: Global, pid: u16, edit: E) -> Result<Editor<E>, AllocError>
+    ensures fresh { IfOk result (λ editor. pid < NULL_PID → StandsFor (E.change edit) editor pid []) }
+    ensures edit { IfOk result (λ editor. edit_of editor ≡ edit) }
+{
+    let edited = if pid < NULL_PID { pid } else { 0 };
+    let editor = Editor::new(alloc, edited, edit)?;
+    Ok(editor)
 }
 
 impl<E: TableEdit + Drop> EditPidSteps<E> {
@@ -58,19 +71,32 @@ impl<E: TableEdit + Drop> EditPidSteps<E> {
 }
 
 impl<E: TableEdit + Drop> Steps for EditPidSteps<E> {
-    ghost use Rattle.std.specs.Prelude.{◌≡◌, ◌<◌, None, false, refl};
-    ghost use Rattle.ts_packet.specs.declared.numbers.TheConstants.{NULL_PID};
-    ghost use Rattle.plug_psi.specs.EditorStands.{StandsFor, edit_of, has_failed};
-    ghost use Rattle.plug_edit.specs.EditRule.{edit_rule, taken_of};
+    ghost use Rattle.std.specs.Prelude.{◌≡◌, ◌≢◌, ◌<◌, None, false, refl};
+    ghost use Rattle.ts_packet.specs.Cells.{Live};
+    ghost use Rattle.chain_model.specs.declared.positions.TheConstants.{POSITION_LIMIT};
+    ghost use Rattle.plugin_trait.specs.Steps.{MeetsCells, Meets, Tells, left_of};
+    ghost use Rattle.plugin_trait.specs.Unmarked.{unmarked};
+    ghost use Rattle.plug_edit.specs.EditRule.{is_taken};
+    ghost use Rattle.plug_edit.specs.EditState.{StepsStand, rule_of};
 
-    ghost rule = { λ s. edit_rule s.pid (E.change (edit_of s.editor)) };
+    ghost rule = { λ s. rule_of E.change s };
 
-    ghost stands_for = { λ s history. has_failed s.editor ≡ false → s.pid < NULL_PID
-        → StandsFor (E.change (edit_of s.editor)) s.editor s.pid (taken_of s.pid history) };
+    ghost stands_for = { λ s history. StepsStand E.change s history };
 
     ghost preallocated = { λ _. None };
 
-    fn step(&mut self, at: u64, packet: &mut Packet, _labels: &mut Labels) -> Outcome {
+    /// The clauses are those of `Steps`, whose ghost members have no names here, and one more: a packet that the editor does
+    /// not take needs no memory.
+    fn step(&mut self, at: u64, packet: &mut Packet, _labels: &mut Labels) -> Outcome
+        requires met { MeetsCells (unmarked (StepsStand E.change self.old)) at }
+        requires in_range { at < POSITION_LIMIT }
+        ensures tells { Tells (rule_of E.change self.old) (unmarked (StepsStand E.change self.old)) at
+            (Live packet.old _labels.old) result (left_of result packet.new _labels.new) }
+        ensures meets { Meets (unmarked (StepsStand E.change self.old)) (unmarked (StepsStand E.change self.new)) at
+            (Live packet.old _labels.old) result }
+        ensures same_rule { rule_of E.change self.new ≡ rule_of E.change self.old }
+        ensures quiet { is_taken self.old.pid packet.old ≡ false → result ≢ Outcome.NoMemory }
+    {
         if packet.pid() != self.pid {
             return Outcome::Pass;
         }
@@ -78,15 +104,18 @@ impl<E: TableEdit + Drop> Steps for EditPidSteps<E> {
             return Outcome::Pass;
         }
         match self.editor.step(at, packet) {
-            Ok(()) => Outcome::Pass,
+            Ok(()) => {
+                self.found.meet(at, self.editor.has_altered());
+                Outcome::Pass
+            }
             Err(_) => Outcome::NoMemory,
         }
     }
 
     fn pass_over(&mut self, _at: u64) {}
 
-    fn has_fault(&self, _cut: u64) -> bool {
-        false
+    fn has_fault(&self, cut: u64) -> bool {
+        self.found.is_none_below(cut)
     }
 
     ghost quiet = { λ plugin. record { no_lines = λ history packet labels. refl; no_summary = λ history. refl } };

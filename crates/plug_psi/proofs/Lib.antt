@@ -1,3 +1,4 @@
+pub mod AlteredLemmas
 pub mod Choice
 pub mod ContentsLemmas
 pub mod EditedLemmas

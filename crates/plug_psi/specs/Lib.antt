@@ -1,4 +1,5 @@
 -- The definitions of `plug_psi`: contents and cycles of a PID, edits of its tables, the tables in force and their PIDs.
+pub mod AlteredTables
 pub mod ByPid
 pub mod CatInForce
 pub mod Contents

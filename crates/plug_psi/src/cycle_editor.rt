@@ -3,10 +3,12 @@
 ghost use Rattle.std.specs.Prelude.{◌≡◌, ℕ, ◌<◌, ◌||◌, ◌++◌, ◌∷◌, [], List, IfOk, OnOk};
 ghost use Rattle.indexmap.specs.IndexMap.{values};
 ghost use Rattle.ts_packetize.specs.Packets.{packets_of};
+ghost use Rattle.plug_psi.specs.AlteredTables;
 ghost use Rattle.plug_psi.specs.EditedCycles.{replaced};
 ghost use Rattle.plug_psi.specs.Edits.{edited_sections};
 ghost use Rattle.plug_psi.specs.EditorState.{NextInPlace, Renewed};
 
+use crate::altered_tables::alters_one;
 use crate::contents::{Contents, Tables};
 use crate::edit::TableEdit;
 use crate::edited::{are_sections_of, edited};
@@ -78,6 +80,23 @@ impl<E: TableEdit + Drop> CycleEditor<E> {
         self.changed = changed;
         self.counter = counter;
         Ok(packet)
+    }
+
+    /// Whether one of these tables is altered by the edit, that is, whether it makes other sections of it, or none; or
+    /// whether one was before. Then the edit is not tried again.
+    pub fn alters_one(
+        &self,
+        alloc: Global,
+        tables: &[TableRun],
+        before: bool,
+    ) -> Result<bool, AllocError>
+        ensures { IfOk result (λ one. one
+            ≡ (before || AlteredTables.alters_one (E.change (edit_of self.now)) tables.now)) }
+    {
+        if before {
+            return Ok(true);
+        }
+        alters_one(alloc, &self.edit, tables)
     }
 
     /// Why nothing was edited on this PID; `None` where the edit makes other sections of the last tables.

@@ -1,6 +1,9 @@
 //! The cycle editor that reads its tables itself.
 
 ghost use Rattle.std.specs.Prelude.{◌≡◌, ℕ, ◌<◌, ◌++◌, ◌∷◌, [], List, true, IfOk, OnOk, OnErr, IsErr};
+ghost use Rattle.ts_demux.specs.TablesOn.{tables_on};
+ghost use Rattle.plug_psi.specs.AlteredTables.{alters_one};
+ghost use Rattle.plug_psi.specs.Edits.{Change};
 ghost use Rattle.plug_psi.specs.EditedCycles.{replaced};
 
 use crate::changes::Changes;
@@ -19,6 +22,8 @@ use ts_packet::{NULL_PID, Packet};
 pub struct Editor<E: TableEdit + Drop> {
     tables: PidTables,
     inner: CycleEditor<E>,
+    /// Whether a table came that the edit alters.
+    has_altered: bool,
     failed: FailureLatch,
     alloc: Global,
 }
@@ -38,6 +43,7 @@ impl<E: TableEdit + Drop> Editor<E> {
         Ok(Editor {
             tables,
             inner,
+            has_altered: false,
             failed: FailureLatch::unset(),
             alloc,
         })
@@ -63,6 +69,14 @@ impl<E: TableEdit + Drop> Editor<E> {
         Ok(())
     }
 
+    /// Whether the packets that were taken completed a table of which the edit makes other sections, or none.
+    pub fn has_altered(&self) -> bool
+        ensures { (edit : List (List ℕ) → Change) (pid : ℕ) (taken : List (List ℕ)) → StandsFor edit self.now pid taken
+            → result ≡ alters_one edit (tables_on pid taken) }
+    {
+        self.has_altered
+    }
+
     /// Why nothing was edited on this PID; `None` where the edit makes other sections of the last tables.
     pub fn unedited(&self, pid: u16) -> Result<Option<Unedited>, AllocError> {
         self.inner.unedited(self.alloc, pid)
@@ -84,7 +98,12 @@ impl<E: TableEdit + Drop> Editor<E> {
         ensures same_failed { has_failed self.new ≡ has_failed self.old }
     {
         let tables = self.tables.take(at, packet)?;
+        let before = self.has_altered;
+        let altered = self
+            .inner
+            .alters_one(self.alloc, tables.as_slice(), before)?;
         let new = self.inner.advance(self.alloc, tables, packet)?;
+        self.has_altered = altered;
         Ok(new)
     }
 }

@@ -5,6 +5,7 @@
 //! The layer above uses `Editor::step`, by which each packet becomes that of the definition, `InForce`, and `Referred`.
 #![tactic(auto)]
 
+mod altered_tables;
 mod by_pid;
 mod cat_as_table;
 mod changes;

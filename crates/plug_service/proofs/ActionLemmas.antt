@@ -1,10 +1,16 @@
 -- Actions, by PIDs and by tables in force.
-use Rattle.std.proofs.Common.{◌≡◌, ℕ, ◌==◌, Bool, true, false, List, refl, sym, ◌∙◌, ap, arith}
-use Rattle.std.specs.Prelude.{if◌then◌else◌}
+use Rattle.std.proofs.Common.{◌≡◌, ℕ, ◌==◌, ◌&&◌, ◌||◌, not, Bool, true, false, List, [], ◌∷◌, ◌++◌, Option, Some, refl, sym, ◌∙◌, ap, arith}
+use Rattle.std.specs.Prelude.{if◌then◌else◌, nat_lt}
+use Rattle.std.specs.List.{list_any}
+use Rattle.std.specs.Map.{lookup}
 use Rattle.std.proofs.lemmas.Bool.Decides.{nat_tests}
 use Rattle.ts_packet.specs.declared.numbers.TheConstants.{NULL_PID}
-use Rattle.plug_psi.specs.InForce.{pat_of, pmt_of}
-use Rattle.plug_service.specs.Actions.{action_after, action_of, kept_action, removed_action}
+use Rattle.ts_packet.specs.Header.{pid_of}
+use Rattle.ts_table_rows.specs.TableValues.{TableHolding}
+use Rattle.plug_psi.specs.InForce.{follows, is_named, may_have_tables, names, pat_of, pid_for, pmt_of, services_in}
+use Rattle.plug_psi.specs.ServicePids.{has_pid, pids_of}
+use Rattle.plug_psi.proofs.ForceLemmas.{pat-other}
+use Rattle.plug_service.specs.Actions.{action_after, action_of, is_at, is_edit, kept_action, may_be_read, removed_action}
 use Rattle.plug_service.specs.declared.way.Way.{Way}
 use Rattle.plug_service.specs.declared.way.Way.TheVariants.{Keep, Remove}
 use Rattle.plug_service.specs.declared.action.Action.{Action}
@@ -86,3 +92,69 @@ fixed_pids Remove service packets pid action e = chosen_first (pid == 0) (pid ==
 pub action-after : (way : Way) (service : ℕ) (packets : List (List ℕ)) (pid : ℕ) → action_of way service (pat_of packets) (λ other. pmt_of other packets) pid ≡ action_after way service packets pid
 unfolding action_after
 action-after way service packets pid = refl
+
+-- ---- packets on PIDs whose tables are neither read nor edited
+
+or-right : (a b : Bool) → b ≡ true → (a || b) ≡ true
+or-right true b e = refl
+or-right false b e = e
+
+neither : (a b : Bool) → (a || b) ≡ false → (a ≡ false) × (b ≡ false)
+neither true b e = cc
+neither false b e = (refl, e)
+
+-- the PID of the first entry of a service is that of an entry
+named-at : (services : List (ℕ × ℕ)) (service pid : ℕ) → is_at (lookup (λ id. id == service) services) pid ≡ true → list_any (λ entry. entry.1 == pid) services ≡ true
+named-at [] service pid e = e
+named-at (entry ∷ services) service pid e = by (entry.0 == service) (λ f. named-at services service pid f) e
+  where
+    by : (b : Bool) → (is_at (lookup (λ id. id == service) services) pid ≡ true → list_any (λ entry. entry.1 == pid) services ≡ true)
+        → is_at (if b then Some entry.1 else lookup (λ id. id == service) services) pid ≡ true → ((entry.1 == pid) || list_any (λ entry. entry.1 == pid) services) ≡ true
+    by true more e = ap (λ t. t || list_any (λ entry. entry.1 == pid) services) e
+    by false more e = or-right (entry.1 == pid) (list_any (λ entry. entry.1 == pid) services) (more e)
+
+-- where it is not followed, it is that of null packets
+null-alone : (a b : Bool) → a ≡ true → (a && not b) ≡ false → b ≡ true
+null-alone true true e f = refl
+null-alone true false e f = sym f
+null-alone false b e f = cc
+
+unfollowed : (pat : Option TableHolding) (service pid : ℕ) → is_named pat pid ≡ false → is_at (pid_for pat service) pid ≡ true → (pid == NULL_PID) ≡ true
+unfollowed pat service pid none e = null-alone (names pat pid) (pid == NULL_PID) (named-at (services_in pat) service pid e) none
+
+kept-plain : (a b : Bool) (pid : ℕ) → (a ≡ true → (pid == NULL_PID) ≡ true) → is_edit (kept_action a b pid) ≡ false
+kept-plain true b pid null = ap (λ t. is_edit (if t then Drop else EditPmt)) (null refl)
+kept-plain false true pid null = refl
+kept-plain false false pid null = refl
+
+removed-plain : (a b c : Bool) (pid : ℕ) → is_edit (removed_action a b c pid) ≡ false
+removed-plain true true c pid = refl
+removed-plain true false c pid = refl
+removed-plain false b c pid = chosen (nat_lt 31 pid && c)
+  where
+    chosen : (d : Bool) → is_edit (if d then Drop else Pass) ≡ false
+    chosen true = refl
+    chosen false = refl
+
+first-plain : (x y : Bool) (other : Action) → x ≡ false → y ≡ false → is_edit (if x then EditPat else (if y then EditSdt else other)) ≡ is_edit other
+first-plain true y other e f = cc
+first-plain false true other e f = cc
+first-plain false false other e f = refl
+
+plain-of : (way : Way) (service : ℕ) (pat : Option TableHolding) (pmts : ℕ → Option TableHolding) (pid : ℕ) →
+    (pid == 17) ≡ false → (pid == 0) ≡ false → is_named pat pid ≡ false → is_edit (action_of way service pat pmts pid) ≡ false
+plain-of Keep service pat pmts pid e f none =
+    first-plain (pid == 0) (pid == 17) _ f e
+    ∙ kept-plain (is_at (pid_for pat service) pid) (has_pid (pids_of (pmts service)) pid) pid (unfollowed pat service pid none)
+plain-of Remove service pat pmts pid e f none = first-plain (pid == 0) (pid == 17) _ f e ∙ removed-plain _ _ _ pid
+
+-- a packet on a PID whose tables are neither read nor edited is not edited
+pub unread-plain :
+    (way : Way) (service : ℕ) (met : List (List ℕ)) (p : List ℕ) (action : Action) →
+    action ≡ action_after way service (met ++ p ∷ []) (pid_of p) → may_be_read (pid_of p) met ≡ false → is_edit action ≡ false
+unread-plain way service met p action e unread =
+    let first = neither (pid_of p == 17) (may_have_tables (pid_of p) met) unread in
+    let second = neither (pid_of p == 0) (follows (pid_of p) met) first.1 in
+    ap is_edit (e ∙ sym (action-after way service (met ++ p ∷ []) (pid_of p)))
+    ∙ plain-of way service (pat_of (met ++ p ∷ [])) (λ other. pmt_of other (met ++ p ∷ [])) (pid_of p) first.0 second.0
+    (ap (λ pat. is_named pat (pid_of p)) (pat-other met p second.0) ∙ second.1)

@@ -2,4 +2,5 @@ pub mod ActionLemmas
 pub mod EditLemmas
 pub mod PartLemmas
 pub mod FlagLemmas
+pub mod StepLemmas
 mod Rows

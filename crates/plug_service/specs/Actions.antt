@@ -1,11 +1,11 @@
 -- What becomes of the packets on a PID if a service is kept or removed.
 -- This project's own rule, over the PAT of ISO/IEC 13818-1, 2.4.4.3 and the SDT on PID 17 of ETSI EN 300 468, 5.1.3. First
 -- come PID 0 and PID 17, whose tables are edited, then the PID of the service's PMT, then the PIDs that this PMT has.
-use Rattle.std.specs.Prelude.{ℕ, ◌==◌, ◌&&◌, Bool, true, false, not, nat_lt, List, [], count_by, Option, Some, None, if◌then◌else◌}
+use Rattle.std.specs.Prelude.{ℕ, ◌==◌, ◌&&◌, ◌||◌, Bool, true, false, not, nat_lt, List, [], count_by, Option, Some, None, if◌then◌else◌}
 use Rattle.std.specs.List.{flat_map}
 use Rattle.ts_packet.specs.declared.numbers.TheConstants.{NULL_PID}
 use Rattle.ts_table_rows.specs.TableValues.{TableHolding}
-use Rattle.plug_psi.specs.InForce.{pat_of, pid_for, pmt_of, services_in}
+use Rattle.plug_psi.specs.InForce.{may_have_tables, pat_of, pid_for, pmt_of, services_in}
 use Rattle.plug_psi.specs.ServicePids.{has_pid, pids_of}
 use Rattle.plug_service.specs.declared.way.Way.{Way}
 use Rattle.plug_service.specs.declared.way.Way.TheVariants.{Keep, Remove}
@@ -74,3 +74,16 @@ edits_pmt EditPat = false
 edits_pmt EditSdt = false
 edits_pmt Pass = false
 edits_pmt Drop = false
+
+-- whether packets with this fate are edited, so that what comes in their place is made of tables
+abbrev pub is_edit : Action → Bool
+is_edit EditPat = true
+is_edit EditSdt = true
+is_edit EditPmt = true
+is_edit Pass = false
+is_edit Drop = false
+
+-- whether the tables on a PID are read or edited, after some packets of any PID: those that may come into force, and the
+-- SDT
+abbrev pub may_be_read : ℕ → List (List ℕ) → Bool
+may_be_read pid packets = (pid == 17) || may_have_tables pid packets

@@ -3,6 +3,7 @@ pub use Rattle.plug_psi.specs.ServicePids
 pub use Rattle.plug_psi.specs.PidFlags
 pub mod Actions
 pub mod ServiceEdits
+pub mod Presence
 pub mod ServiceRule
 pub mod ActionsState
 pub mod EditorsState

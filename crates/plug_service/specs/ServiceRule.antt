@@ -8,9 +8,11 @@ use Rattle.ts_demux.specs.TablesOn.{packets_on}
 use Rattle.ts_demux.specs.TakenWhere.{taken_on}
 use Rattle.chain_model.specs.PluginRule.{PluginRule}
 use Rattle.plugin_trait.specs.Actions.{action}
+use Rattle.plugin_trait.specs.Finding.{finds_none}
 use Rattle.plugin_trait.specs.SilentRule.{silent_rule}
 use Rattle.plug_psi.specs.EditedCycles.{replaced}
 use Rattle.plug_service.specs.Actions.{edits_pmt, action_after}
+use Rattle.plug_service.specs.Presence.{finds_service}
 use Rattle.plug_service.specs.ServiceEdits.{pat_change, sdt_change, pmt_change}
 use Rattle.plug_service.specs.declared.way.Way.{Way}
 use Rattle.plug_service.specs.declared.way.Way.TheVariants.{Keep, Remove}
@@ -38,10 +40,13 @@ abbrev pub made_of : Way → ℕ → List (List ℕ) → List ℕ → Option (Li
 made_of way service before packet =
     made_by way service (action_after way service (before ++ packet ∷ []) (pid_of packet)) before packet
 
--- a service is kept alone, or removed; a packet that does not pass is dropped, or becomes a null packet
+-- A service is kept alone, or removed; a packet that does not pass is dropped, or becomes a null packet. A run has a fault
+-- in which the service never was there.
 abbrev pub service_rule : Way → ℕ → Bool → PluginRule
-service_rule way service stuffing = silent_rule (λ history packet.
-    action stuffing (made_of way service (live_packets history) packet))
+service_rule way service stuffing =
+    record (silent_rule (λ history packet. action stuffing (made_of way service (live_packets history) packet))) {
+      has_fault = finds_none (finds_service way service);
+    }
 
 -- the rule of `zap`
 abbrev pub zap_rule : ServiceConf → PluginRule

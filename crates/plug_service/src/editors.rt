@@ -1,10 +1,10 @@
 //! The editors of all PIDs.
 
-ghost use Rattle.std.specs.Prelude.{◌≡◌, ℕ, ◌++◌, ◌∷◌, [], List, IfOk, OnOk, OnErr};
+ghost use Rattle.std.specs.Prelude.{◌≡◌, ℕ, ◌++◌, ◌∷◌, [], List, false, IfOk, IsOk, OnOk, OnErr};
 ghost use Rattle.ts_demux.specs.TablesOn.{Completes, packets_on};
 ghost use Rattle.ts_packet.specs.Header.{pid_of};
 ghost use Rattle.plug_psi.specs.ForceStands.{StandsFor as Forced, pats_in};
-ghost use Rattle.plug_service.specs.Actions.{action_after};
+ghost use Rattle.plug_service.specs.Actions.{action_after, is_edit};
 ghost use Rattle.plug_service.specs.ActionsState.{IsEditable};
 ghost use Rattle.plug_service.specs.ServiceRule.{made_by};
 ghost use Rattle.plug_service.specs.EditorsState.{left_by};
@@ -83,6 +83,7 @@ impl Editors {
             → EditorsStand way service self.new (met ++ packet.old ∷ [])) }
         ensures force { OnOk result ((fed : List (List ℕ)) → Forced force.old fed → Forced force.new fed) }
         ensures as_it_was { OnErr result (packet.new ≡ packet.old) }
+        ensures quiet { is_edit action ≡ false → IsOk result }
     {
         // A law, which runs nothing.
         unfollowed_packets_change_nothing::<PmtEditor>();

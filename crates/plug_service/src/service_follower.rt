@@ -1,13 +1,14 @@
 //! What follows one service: the tables in force, and the actions by them.
 
-ghost use Rattle.std.specs.Prelude.{◌≡◌, ℕ, ◌++◌, ◌∷◌, [], List, false, IfOk, OnOk};
+ghost use Rattle.std.specs.Prelude.{◌≡◌, ℕ, ◌++◌, ◌∷◌, [], List, false, IfOk, IsOk, OnOk};
 ghost use Rattle.ts_packet.specs.Header.{pid_of};
 ghost use Rattle.ts_demux.specs.TablesOn.{Completes, packets_on};
-ghost use Rattle.plug_psi.specs.InForce.{pat_of, pmt_of};
+ghost use Rattle.plug_psi.specs.InForce.{may_have_tables, pat_of, pmt_of};
 ghost use Rattle.plug_psi.specs.ForceStands.{StandsFor as Forced, pats_in};
 ghost use Rattle.plug_psi.specs.SameForce.{SameInForce};
-ghost use Rattle.plug_service.specs.Actions.{action_after};
+ghost use Rattle.plug_service.specs.Actions.{action_after, is_edit, may_be_read};
 ghost use Rattle.plug_service.specs.ActionsState.{ActionsStand, IsEditable};
+ghost use Rattle.plug_service.specs.Presence.{is_there_after};
 
 use crate::action::Action;
 use crate::pid_actions::PidActions;
@@ -37,25 +38,46 @@ impl ServiceFollower {
         Ok(ServiceFollower { force, actions })
     }
 
-    /// Processes the next packet, of any PID, which has a position, and returns its action.
+    /// Processes the next packet, of any PID, which has a position. Returns its action, and whether other tables may be in
+    /// force with it.
     #[inline]
     pub(crate) fn meet(
         &mut self,
         alloc: Global,
         at: u64,
         packet: &Packet,
-    ) -> Result<Action, AllocError>
+    ) -> Result<(Action, bool), AllocError>
         ensures stands { OnOk result ((way : Way) (service : ℕ) (met : List (List ℕ)) → FollowsService way service self.old met
             → FollowsService way service self.new (met ++ packet.now ∷ [])) }
-        ensures tells { IfOk result (λ action. (way : Way) (service : ℕ) (met : List (List ℕ)) → FollowsService way service self.old met
-            → action ≡ action_after way service (met ++ packet.now ∷ []) (pid_of packet.now)) }
+        ensures tells { IfOk result (λ told. (way : Way) (service : ℕ) (met : List (List ℕ)) → FollowsService way service self.old met
+            → told.0 ≡ action_after way service (met ++ packet.now ∷ []) (pid_of packet.now)) }
+        ensures same { IfOk result (λ told. told.1 ≡ false → (way : Way) (service : ℕ) (met : List (List ℕ)) → FollowsService way service self.old met
+            → SameInForce met packet.now) }
         ensures pats { OnOk result ((way : Way) (service : ℕ) (met : List (List ℕ)) → FollowsService way service self.old met
             → pid_of packet.now ≡ 0 → Completes 0 (packets_on 0 met) packet.now (pats_in self.new.force)) }
-        ensures editable { IfOk result (λ action. IsEditable action (pid_of packet.now)) }
+        ensures editable { IfOk result (λ told. IsEditable told.0 (pid_of packet.now)) }
+        ensures quiet { (way : Way) (service : ℕ) (met : List (List ℕ)) → FollowsService way service self.old met
+            → may_have_tables (pid_of packet.now) met ≡ false → IsOk result }
+        ensures unread { IfOk result (λ told. (way : Way) (service : ℕ) (met : List (List ℕ)) → FollowsService way service self.old met
+            → may_be_read (pid_of packet.now) met ≡ false → is_edit told.0 ≡ false) }
     {
         let came = self.force.update(at, packet)?;
         renew_where(alloc, &self.force, &mut self.actions, came)?;
-        Ok(self.actions.action(packet.pid()))
+        Ok((self.actions.action(packet.pid()), came))
+    }
+
+    /// Whether the service is there by the tables in force: the PAT has an entry of it, and if it is kept, it has a PMT.
+    pub(crate) fn is_there(&self) -> bool
+        ensures { (way : Way) (service : ℕ) (met : List (List ℕ)) → FollowsService way service self.now met
+            → result ≡ is_there_after way service met }
+    {
+        let Some(_pid) = self.actions.of_pmt else {
+            return false;
+        };
+        match self.actions.way {
+            Way::Keep => self.force.pmt(self.actions.service).is_some(),
+            Way::Remove => true,
+        }
     }
 }
 
@@ -73,6 +95,7 @@ fn renew_where(
         → ActionsStand actions.new (pat_of (met ++ packet ∷ [])) (λ other. pmt_of other (met ++ packet ∷ []))) }
     ensures way { actions.new.way ≡ actions.old.way }
     ensures service { actions.new.service ≡ actions.old.service }
+    ensures quiet { came ≡ false → IsOk result }
 {
     if !came {
         return Ok(());

@@ -1,14 +1,20 @@
 //! The steps of `zap` and `svremove`.
 
-ghost use Rattle.std.specs.Prelude.{◌≡◌, ℕ, ◌++◌, ◌∷◌, [], List, true, IfOk, OnOk, OnErr};
+ghost use Rattle.std.specs.Prelude.{◌≡◌, ℕ, ◌++◌, ◌∷◌, [], List, None, true, false, IfOk, IsOk, OnOk, OnErr};
+ghost use Rattle.ts_packet.specs.Header.{pid_of};
+ghost use Rattle.plugin_trait.specs.Finding.{first_of};
+ghost use Rattle.plug_service.specs.Actions.{may_be_read};
+ghost use Rattle.plug_service.specs.ActionsState.{FollowsService};
+ghost use Rattle.plug_service.specs.Presence.{is_there_after};
 ghost use Rattle.plug_service.specs.ServiceRule.{made_of};
+ghost use Rattle.plug_service.specs.ServiceState.{IsNoted};
 ghost use Rattle.plug_service.specs.EditorsState.{left_by};
 
 use crate::editors::Editors;
 use crate::service_follower::ServiceFollower;
 use crate::way::Way;
 use plug_psi::{Changes, FailureLatch, Unedited, both, pid_of_service};
-use plugin_trait::{Outcome, Steps};
+use plugin_trait::{FirstFind, Outcome, Steps};
 use std::alloc::{AllocError, Global};
 use ts_packet::{Labels, Packet};
 
@@ -22,6 +28,8 @@ pub struct ServiceSteps {
     pub(crate) stuffing: bool,
     pub(crate) follower: ServiceFollower,
     pub(crate) editors: Editors,
+    /// The first position at which the service was there.
+    pub(crate) found: FirstFind,
     pub(crate) failed: FailureLatch,
     pub(crate) alloc: Global,
 }
@@ -37,6 +45,7 @@ impl ServiceSteps {
         stuffing: bool,
     ) -> Result<ServiceSteps, AllocError>
         ensures stands { IfOk result (λ plugin. StandsFor plugin []) }
+        ensures found { IfOk result (λ plugin. plugin.found.at ≡ None) }
         ensures way { IfOk result (λ plugin. plugin.way ≡ way) }
         ensures service { IfOk result (λ plugin. plugin.service ≡ service) }
         ensures stuffing { IfOk result (λ plugin. plugin.stuffing ≡ stuffing) }
@@ -50,6 +59,7 @@ impl ServiceSteps {
             stuffing,
             follower,
             editors,
+            found: FirstFind::none(),
             failed: FailureLatch::unset(),
             alloc,
         })
@@ -83,11 +93,16 @@ impl ServiceSteps {
         ensures made { IfOk result (λ passes. (met : List (List ℕ)) → StandsFor self.old met
             → left_by passes packet.new ≡ made_of self.old.way self.old.service met packet.old) }
         ensures stands { OnOk result ((met : List (List ℕ)) → StandsFor self.old met → StandsFor self.new (met ++ packet.old ∷ [])) }
+        ensures found { OnOk result ((met : List (List ℕ)) → StandsFor self.old met → self.new.found.at
+            ≡ first_of self.old.found.at at (is_there_after self.old.way self.old.service (met ++ packet.old ∷ []))) }
+        ensures not_found { OnErr result (self.new.found ≡ self.old.found) }
         ensures spent { OnErr result (self.new.failed ≡ true) }
         ensures as_it_was { OnErr result (packet.new ≡ packet.old) }
         ensures way { self.new.way ≡ self.old.way }
         ensures service { self.new.service ≡ self.old.service }
         ensures stuffing { self.new.stuffing ≡ self.old.stuffing }
+        ensures quiet { (met : List (List ℕ)) → self.old.failed ≡ false → StandsFor self.old met
+            → may_be_read (pid_of packet.old) met ≡ false → IsOk result }
     {
         self.failed.check()?;
         let answer = self.advance(at, packet);
@@ -102,32 +117,70 @@ impl ServiceSteps {
             → left_by passes packet.new ≡ made_of way service met packet.old) }
         ensures stands { OnOk result ((way : Way) (service : ℕ) (met : List (List ℕ)) → Served way service self.old met
             → Served way service self.new (met ++ packet.old ∷ [])) }
+        ensures found { OnOk result ((way : Way) (service : ℕ) (met : List (List ℕ)) → Served way service self.old met
+            → self.new.found.at ≡ first_of self.old.found.at at (is_there_after way service (met ++ packet.old ∷ []))) }
+        ensures not_found { OnErr result (self.new.found ≡ self.old.found) }
         ensures as_it_was { OnErr result (packet.new ≡ packet.old) }
         ensures way { self.new.way ≡ self.old.way }
         ensures service { self.new.service ≡ self.old.service }
         ensures stuffing { self.new.stuffing ≡ self.old.stuffing }
         ensures failed { self.new.failed ≡ self.old.failed }
+        ensures quiet { (way : Way) (service : ℕ) (met : List (List ℕ)) → Served way service self.old met
+            → may_be_read (pid_of packet.old) met ≡ false → IsOk result }
     {
-        let action = self.follower.meet(self.alloc, at, packet)?;
+        let (action, came) = self.follower.meet(self.alloc, at, packet)?;
         let force = &mut self.follower.force;
         let passes = self.editors.edit(self.alloc, at, action, force, packet)?;
+        note_where(&mut self.found, at, &self.follower, came);
         Ok(passes)
     }
 }
 
+/// Notes at a position whether the service is there, if other tables may be in force.
+#[inline]
+fn note_where(found: &mut FirstFind, at: u64, follower: &ServiceFollower, came: bool)
+    ensures { (way : Way) (service : ℕ) (before after : List (List ℕ)) → FollowsService way service follower.now after
+        → (came ≡ false → is_there_after way service after ≡ is_there_after way service before)
+        → IsNoted found.old (is_there_after way service before)
+        → found.new.at ≡ first_of found.old.at at (is_there_after way service after) }
+{
+    if !came {
+        return;
+    }
+    found.meet(at, follower.is_there());
+}
+
 impl Steps for ServiceSteps {
-    ghost use Rattle.std.specs.Prelude.{None, refl};
-    ghost use Rattle.ts_packet.specs.Cells.{live_packets};
-    ghost use Rattle.plug_service.specs.ServiceState.{StandsFor, rule_of};
+    ghost use Rattle.std.specs.Prelude.{◌≡◌, ◌≢◌, ◌<◌, List, None, false, refl};
+    ghost use Rattle.ts_packet.specs.declared.cell.Cell.{Cell};
+    ghost use Rattle.ts_packet.specs.Cells.{Live, live_packets};
+    ghost use Rattle.ts_packet.specs.Header.{pid_of};
+    ghost use Rattle.chain_model.specs.declared.positions.TheConstants.{POSITION_LIMIT};
+    ghost use Rattle.plugin_trait.specs.Steps.{MeetsCells, Meets, Tells, left_of};
+    ghost use Rattle.plugin_trait.specs.Unmarked.{unmarked};
+    ghost use Rattle.plug_service.specs.Actions.{may_be_read};
+    ghost use Rattle.plug_service.specs.ServiceState.{MeetsHistory, rule_of};
 
     ghost rule = { λ s. rule_of s };
 
-    ghost stands_for = { λ s history. StandsFor s (live_packets history) };
+    ghost stands_for = { λ s history. MeetsHistory s history };
 
     ghost preallocated = { λ _. None };
 
+    /// The clauses are those of `Steps`, whose ghost members have no names here, and one more: a packet on a PID whose
+    /// tables are neither read nor edited needs no memory.
     #[inline]
-    fn step(&mut self, at: u64, packet: &mut Packet, _labels: &mut Labels) -> Outcome {
+    fn step(&mut self, at: u64, packet: &mut Packet, _labels: &mut Labels) -> Outcome
+        requires met { MeetsCells (unmarked (MeetsHistory self.old)) at }
+        requires in_range { at < POSITION_LIMIT }
+        ensures tells { Tells (rule_of self.old) (unmarked (MeetsHistory self.old)) at
+            (Live packet.old _labels.old) result (left_of result packet.new _labels.new) }
+        ensures meets { Meets (unmarked (MeetsHistory self.old)) (unmarked (MeetsHistory self.new)) at
+            (Live packet.old _labels.old) result }
+        ensures same_rule { rule_of self.new ≡ rule_of self.old }
+        ensures quiet { (history : List Cell) → self.old.failed ≡ false → MeetsHistory self.old history
+            → may_be_read (pid_of packet.old) (live_packets history) ≡ false → result ≢ Outcome.NoMemory }
+    {
         match self.take(at, packet) {
             Ok(true) => Outcome::Pass,
             Ok(false) => {
@@ -143,8 +196,8 @@ impl Steps for ServiceSteps {
 
     fn pass_over(&mut self, _at: u64) {}
 
-    fn has_fault(&self, _cut: u64) -> bool {
-        false
+    fn has_fault(&self, cut: u64) -> bool {
+        self.found.is_none_below(cut)
     }
 
     ghost quiet = { λ plugin. record { no_lines = λ history packet labels. refl; no_summary = λ history. refl } };

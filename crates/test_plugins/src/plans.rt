@@ -232,10 +232,7 @@ static OF_PLUGINS: [(&str, Option<WordsRule>); 45] = [
         "-P slice --drop 1 --milliseconds --pcr-pid 8192",
         Some(WordsRule::Value),
     ),
-    (
-        "-P slice --drop 1 --pcr-pid 256",
-        Some(WordsRule::Conflict),
-    ),
+    ("-P slice --drop 1 --pcr-pid 256", Some(WordsRule::Conflict)),
     ("-P slice --drop 1 --milliseconds --pcr-pid 256", None),
     ("-P pattern", Some(WordsRule::Missing)),
     ("-P pattern --pid x", Some(WordsRule::Missing)),

@@ -49,12 +49,16 @@ static SHOWN: [ShownRow; 7] = [
     // a part of a long text, whose items have a length before them, and the same with a length that cuts an item
     (
         0x4E,
-        &[0x00, b'e', b'n', b'g', 0x04, 0x01, b'a', 0x01, b'b', 0x01, b'c'],
+        &[
+            0x00, b'e', b'n', b'g', 0x04, 0x01, b'a', 0x01, b'b', 0x01, b'c',
+        ],
         r##"{"#name":"extended_event_descriptor","#nodes":[{"#name":"item","item":"b","item_description":"a"}],"descriptor_number":0,"language_code":"eng","last_descriptor_number":0,"text":"c"}"##,
     ),
     (
         0x4E,
-        &[0x00, b'e', b'n', b'g', 0x03, 0x01, b'a', 0x01, b'b', 0x01, b'c'],
+        &[
+            0x00, b'e', b'n', b'g', 0x03, 0x01, b'a', 0x01, b'b', 0x01, b'c',
+        ],
         r##"{"#name":"generic_descriptor","data":"00656e6703016101620163","tag":78}"##,
     ),
 ];

@@ -1,0 +1,23 @@
+-- Whether a service is there, so that there is something to keep or to remove.
+-- This project's own rule, over the PAT and the PMTs in force (ISO/IEC 13818-1, 2.4.4.3 and 2.4.4.8).
+use Rattle.std.specs.Prelude.{ℕ, ◌&&◌, Bool, List, [], ◌∷◌, ◌++◌, Option, is_some}
+use Rattle.ts_packet.specs.declared.cell.Cell.{Cell}
+use Rattle.ts_packet.specs.Cells.{live_packets}
+use Rattle.ts_table_rows.specs.TableValues.{TableHolding}
+use Rattle.plug_psi.specs.InForce.{pat_of, pid_for, pmt_of}
+use Rattle.plug_service.specs.declared.way.Way.{Way}
+use Rattle.plug_service.specs.declared.way.Way.TheVariants.{Keep, Remove}
+
+-- a service is there if this PAT, and as its PMT this one, if any, are in force: the PAT has an entry of it, and if it is
+-- kept, there is such a PMT
+abbrev pub is_there : Way → ℕ → Option TableHolding → Option TableHolding → Bool
+is_there Keep service pat pmt = is_some (pid_for pat service) && is_some pmt
+is_there Remove service pat pmt = is_some (pid_for pat service)
+
+-- it is there after these packets of any PID
+abbrev pub is_there_after : Way → ℕ → List (List ℕ) → Bool
+is_there_after way service packets = is_there way service (pat_of packets) (pmt_of service packets)
+
+-- it is there with a packet, after these cells
+abbrev pub finds_service : Way → ℕ → List Cell → List ℕ → ℕ → Bool
+finds_service way service history packet labels = is_there_after way service (live_packets history ++ packet ∷ [])
