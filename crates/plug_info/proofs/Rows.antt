@@ -1,10 +1,8 @@
 -- Worked rows of the names of networks and bouquets, computed on the definitions.
 use Rattle.std.proofs.Common.{◌≡◌, ℕ, List, [], ◌∷◌, codes, true, refl, None, Some}
-use Rattle.std.specs.Fmt.{digits}
-use Rattle.std.specs.Str.{chars}
-use lib.Utf8.{encode}
 use Rattle.ts_bits.specs.TaggedBody.{TaggedBody}
 use Rattle.ts_table_rows.specs.TableValues.{TableHolding}
+use Rattle.plug_info_texts.specs.NamedTexts.{named_json, named_text}
 use Rattle.plug_info_state.specs.NitInForce.{of_actual_network}
 use Rattle.plug_info.specs.NetworkNames.{bouquet_lines, bouquet_objects, network_json, network_lines}
 
@@ -20,13 +18,11 @@ named tag name = record { tag = tag; body = name }
 
 -- of two names the first counts, and a descriptor with another tag is none
 network-row : network_lines (Some (table 0x40 3 (named 0x47 (codes "no") ∷ named 0x40 (codes "Net") ∷ named 0x40 (codes "late") ∷ [])))
-    ≡ codes "network 3 name \"Net\"" ∷ []
-unfolding digits
+    ≡ named_text (codes "network") 3 (Some (codes "Net")) ∷ []
 network-row = refl
 
 -- a bouquet without a name, and no table
-bouquet-row : bouquet_lines (Some (table 0x4A 700 [])) ≡ codes "bouquet 700 name none" ∷ []
-unfolding digits
+bouquet-row : bouquet_lines (Some (table 0x4A 700 [])) ≡ named_text (codes "bouquet") 700 None ∷ []
 bouquet-row = refl
 
 none-row : network_lines None ≡ []
@@ -37,8 +33,7 @@ other-row : of_actual_network (Some (table 0x41 3 [])) ≡ None
 other-row = refl
 
 -- their objects
-bouquet-json : bouquet_objects (Some (table 0x4A 700 (named 0x47 (codes "Film") ∷ []))) ≡ codes "{\"id\":700,\"name\":\"Film\"}" ∷ []
-unfolding digits chars encode
+bouquet-json : bouquet_objects (Some (table 0x4A 700 (named 0x47 (codes "Film") ∷ []))) ≡ named_json 700 (Some (codes "Film")) ∷ []
 bouquet-json = refl
 
 network-none : network_json None ≡ codes "null"

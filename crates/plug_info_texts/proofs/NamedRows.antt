@@ -1,14 +1,18 @@
 -- Worked rows of networks, bouquets and EIT sections, computed on the definitions.
 use Rattle.std.proofs.Common.{◌≡◌, codes, refl, None, Some}
 use Rattle.std.specs.Fmt.{digits}
-use Rattle.std.specs.Str.{chars}
+use Rattle.hex.specs.Hex.{encode_with}
+use Rattle.std.specs.Str.{chars, is_utf8}
 use lib.Utf8.{encode}
+use Rattle.ts_charsets.specs.AlphabetTexts.{single_chars}
+use Rattle.ts_charsets.specs.ShownTexts.{shown_text}
+use Rattle.ts_charsets.specs.TextTables.{tabled_text}
 use Rattle.plug_info_texts.specs.EitTexts.{eit_json, eit_text}
 use Rattle.plug_info_texts.specs.NamedTexts.{named_json, named_text, names_json}
 
 -- a network with a name, and a bouquet without one
 network-row : named_text (codes "network") 3 (Some (codes "Net")) ≡ codes "network 3 name \"Net\""
-unfolding digits
+unfolding chars encode encode_with is_utf8 shown_text single_chars tabled_text digits
 network-row = refl
 
 bouquet-row : named_text (codes "bouquet") 700 None ≡ codes "bouquet 700 name none"
@@ -16,7 +20,7 @@ unfolding digits
 bouquet-row = refl
 
 network-json : named_json 3 (Some (codes "Net")) ≡ codes "{\"id\":3,\"name\":\"Net\"}"
-unfolding digits chars encode
+unfolding chars encode encode_with is_utf8 shown_text single_chars tabled_text digits
 network-json = refl
 
 bouquet-json : named_json 700 None ≡ codes "{\"id\":700,\"name\":null}"

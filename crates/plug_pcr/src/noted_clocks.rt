@@ -17,7 +17,7 @@ pub struct NotedClocks {
 }
 
 impl NotedClocks {
-    ghost use Rattle.std.specs.Prelude.{◌≡◌, ◌+◌, ◌++◌, ◌∷◌, [], IfOk, OnOk, OnErr, length, map, nat_lt, option_to_list};
+    ghost use Rattle.std.specs.Prelude.{◌≡◌, ◌≤◌, ◌⊎◌, ◌+◌, ◌++◌, ◌∷◌, [], IfOk, IsErr, OnOk, OnErr, length, map, nat_lt, option_to_list};
     ghost use Rattle.std.specs.List.{take_while};
     ghost use Rattle.plugin_notes.specs.NotesKept.{TakesBelow};
     ghost use Rattle.plug_pcr.specs.ClockFaults.{line_of_fault, place_of_fault};
@@ -27,6 +27,8 @@ impl NotedClocks {
     pub fn new(alloc: Global, buffer: usize) -> Result<NotedClocks, AllocError>
         ensures met { IfOk result (λ noted. noted.met.items ≡ []) }
         ensures faults { IfOk result (λ noted. noted.faults.items ≡ []) }
+        ensures reserved_clocks { IfOk result (λ noted. noted.met.capacity ≡ buffer) }
+        ensures reserved_faults { IfOk result (λ noted. noted.faults.capacity ≡ buffer) }
     {
         Ok(NotedClocks {
             met: HeapCircularBuffer::with_capacity(alloc, buffer)?,
@@ -40,6 +42,9 @@ impl NotedClocks {
         ensures met { OnOk result (self.new.met.items ≡ self.old.met.items ++ note ∷ []) }
         ensures faults { OnOk result (self.new.faults.items ≡ self.old.faults.items ++ option_to_list fault) }
         ensures err { OnErr result ((self.new.met.items ≡ self.old.met.items) × (self.new.faults.items ≡ self.old.faults.items)) }
+        ensures full { IsErr result → (self.old.met.capacity ≤ length self.old.met.items) ⊎ (self.old.faults.capacity ≤ length self.old.faults.items) }
+        ensures reserved_clocks { self.new.met.capacity ≡ self.old.met.capacity }
+        ensures reserved_faults { self.new.faults.capacity ≡ self.old.faults.capacity }
     {
         if self.faults.len() >= self.faults.capacity() {
             return Err(AllocError);
@@ -66,6 +71,8 @@ impl NotedClocks {
         ensures faults { TakesBelow place_of_fault mark self.old.faults.items self.new.faults.items }
         ensures met_count { result.0 + length self.new.met.items ≡ length self.old.met.items }
         ensures fault_count { result.1 + length self.new.faults.items ≡ length self.old.faults.items }
+        ensures reserved_clocks { self.new.met.capacity ≡ self.old.met.capacity }
+        ensures reserved_faults { self.new.faults.capacity ≡ self.old.faults.capacity }
     {
         (
             drop_below(&mut self.met, mark),

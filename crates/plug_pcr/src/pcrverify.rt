@@ -30,7 +30,7 @@ pub struct Pcrverify {
 }
 
 impl Pcrverify {
-    ghost use Rattle.std.specs.Prelude.{◌≡◌, ◌<◌, IfOk, OnOk, OnErr, [], ◌++◌, ◌∷◌, None, Some, true, false, length, ℕ, List};
+    ghost use Rattle.std.specs.Prelude.{◌≡◌, ◌<◌, IfOk, IsErr, OnOk, OnErr, [], ◌++◌, ◌∷◌, None, Some, true, false, length, ℕ, List};
     ghost use Rattle.ts_packet.specs.declared.cell.Cell.{Cell as GivenCell};
     ghost use Rattle.ts_packet.specs.Cells.{Live};
     ghost use Rattle.ts_packet.specs.Header.{pid_of};
@@ -40,7 +40,7 @@ impl Pcrverify {
     ghost use Rattle.plugin_trait.specs.Steps.{MeetsCells};
     ghost use Rattle.plug_pcr.specs.PcrverifySettings.{IsValidPcrverify};
     ghost use Rattle.plug_pcr.specs.PcrverifyRule.{pcrverify_rule};
-    ghost use Rattle.plug_pcr.specs.PcrverifyConfOf.{StandsFor, conf_of};
+    ghost use Rattle.plug_pcr.specs.PcrverifyConfOf.{IsFull, StandsFor, conf_of, room_for_clocks, room_for_faults};
 
     /// A new plugin, which has processed no cell. It allocates its tables, and room for notes on as many packets as
     /// the buffer holds.
@@ -49,6 +49,8 @@ impl Pcrverify {
         ensures rule { IfOk result (λ plugin. ⟦<Pcrverify as Plugin>⟧.rule plugin ≡ pcrverify_rule conf.now) }
         ensures fresh { IfOk result (λ plugin. ⟦<Pcrverify as Plugin>⟧.stands_for plugin [] 0) }
         ensures preallocated { IfOk result (λ plugin. ⟦<Pcrverify as Plugin>⟧.preallocated plugin ≡ None) }
+        ensures reserved_clocks { IfOk result (λ plugin. room_for_clocks plugin ≡ buffer) }
+        ensures reserved_faults { IfOk result (λ plugin. room_for_faults plugin ≡ buffer) }
     {
         Ok(Pcrverify {
             bitrate: conf.bitrate,
@@ -69,6 +71,9 @@ impl Pcrverify {
         ensures met { OnOk result ((history : List GivenCell) (mark : ℕ) → StandsFor self.old history mark
             → length history ≡ at → (labels : ℕ) → StandsFor self.new (history ++ Live packet.now labels ∷ []) mark) }
         ensures same { conf_of self.new ≡ conf_of self.old }
+        ensures full { IsErr result → IsFull self.old }
+        ensures reserved_clocks { room_for_clocks self.new ≡ room_for_clocks self.old }
+        ensures reserved_faults { room_for_faults self.new ≡ room_for_faults self.old }
         ensures err { OnErr result ((self.new.last ≡ self.old.last) × (self.new.noted.met.items ≡ self.old.noted.met.items)
             × (self.new.noted.faults.items ≡ self.old.noted.faults.items)
             × (self.new.clock_count ≡ self.old.clock_count) × (self.new.fault_count ≡ self.old.fault_count)) }
@@ -91,6 +96,9 @@ impl Pcrverify {
         ensures met { OnOk result ((history : List GivenCell) (mark : ℕ) → StandsFor self.old history mark
             → length history ≡ at → (labels : ℕ) → StandsFor self.new (history ++ Live packet.now labels ∷ []) mark) }
         ensures same { conf_of self.new ≡ conf_of self.old }
+        ensures full { IsErr result → IsFull self.old }
+        ensures reserved_clocks { room_for_clocks self.new ≡ room_for_clocks self.old }
+        ensures reserved_faults { room_for_faults self.new ≡ room_for_faults self.old }
         ensures err { OnErr result ((self.new.last ≡ self.old.last) × (self.new.noted.met.items ≡ self.old.noted.met.items)
             × (self.new.noted.faults.items ≡ self.old.noted.faults.items)
             × (self.new.clock_count ≡ self.old.clock_count) × (self.new.fault_count ≡ self.old.fault_count)) }
@@ -105,19 +113,37 @@ impl Pcrverify {
 }
 
 impl Plugin for Pcrverify {
-    ghost use Rattle.std.specs.Prelude.{None, refl};
+    ghost use Rattle.std.specs.Prelude.{◌≡◌, ◌≢◌, ◌<◌, IsOk, IsSome, refl};
+    ghost use Rattle.ts_packet.specs.Cells.{Live};
+    ghost use Rattle.chain_model.specs.declared.positions.TheConstants.{POSITION_LIMIT};
+    ghost use Rattle.plugin_trait.specs.Marks.{AllowsMark, GivesLines};
+    ghost use Rattle.plugin_trait.specs.Steps.{HasRoom, Meets, MeetsCells, Tells, left_of};
     ghost use Rattle.plug_pcr.specs.PcrverifyRule.{pcrverify_rule};
-    ghost use Rattle.plug_pcr.specs.PcrverifyConfOf.{StandsFor, conf_of};
+    ghost use Rattle.plug_pcr.specs.PcrverifyConfOf.{IsFull, StandsFor, conf_of, preallocated_of, room_for_clocks, room_for_faults};
 
     ghost rule = { λ s. pcrverify_rule (conf_of s) };
 
     ghost stands_for = { λ s history mark. StandsFor s history mark };
 
-    ghost preallocated = { λ s. None };
+    ghost preallocated = { λ s. preallocated_of s };
 
+    /// The clauses are those of `Plugin`, whose ghost members have no names here, and three more: a step runs out of
+    /// memory only where there is no room for one more note, and the room for notes of both kinds stays the same.
     // Inlined always: otherwise the loop of `steps` has a call for each cell.
     #[inline(always)]
-    fn step(&mut self, at: u64, packet: &mut Packet, _labels: &mut Labels) -> Outcome {
+    fn step(&mut self, at: u64, packet: &mut Packet, _labels: &mut Labels) -> Outcome
+        requires met { MeetsCells (StandsFor self.old) at }
+        requires in_range { at < POSITION_LIMIT }
+        ensures tells { Tells (pcrverify_rule (conf_of self.old)) (StandsFor self.old) at (Live packet.old _labels.old) result
+            (left_of result packet.new _labels.new) }
+        ensures meets { Meets (StandsFor self.old) (StandsFor self.new) at (Live packet.old _labels.old) result }
+        ensures same_rule { pcrverify_rule (conf_of self.new) ≡ pcrverify_rule (conf_of self.old) }
+        ensures same_preallocated { preallocated_of self.new ≡ preallocated_of self.old }
+        ensures room { HasRoom (preallocated_of self.old) (StandsFor self.old) at → result ≢ Outcome.NoMemory }
+        ensures full { result ≡ Outcome.NoMemory → IsFull self.old }
+        ensures reserved_clocks { room_for_clocks self.new ≡ room_for_clocks self.old }
+        ensures reserved_faults { room_for_faults self.new ≡ room_for_faults self.old }
+    {
         match self.look(at, packet) {
             Ok(()) => Outcome::Pass,
             Err(_) => Outcome::NoMemory,
@@ -126,7 +152,17 @@ impl Plugin for Pcrverify {
 
     fn pass_over(&mut self, _at: u64) {}
 
-    fn note(&mut self, written: u64, lines: &mut Vec<Line>) -> Result<(), AllocError> {
+    /// The clauses are those of `Plugin`, and two more: the room for notes of both kinds stays the same.
+    fn note(&mut self, written: u64, lines: &mut Vec<Line>) -> Result<(), AllocError>
+        requires { AllowsMark (StandsFor self.old) written }
+        ensures gives { GivesLines (pcrverify_rule (conf_of self.old)) (StandsFor self.old) (StandsFor self.new) written
+            lines.old.items lines.new.items result }
+        ensures same_rule { pcrverify_rule (conf_of self.new) ≡ pcrverify_rule (conf_of self.old) }
+        ensures same_preallocated { preallocated_of self.new ≡ preallocated_of self.old }
+        ensures room { IsSome (preallocated_of self.old) → IsOk result }
+        ensures reserved_clocks { room_for_clocks self.new ≡ room_for_clocks self.old }
+        ensures reserved_faults { room_for_faults self.new ≡ room_for_faults self.old }
+    {
         self.noted.push_lines_below(lines, written)?;
         let (clocks, faults) = self.noted.drop_below(written);
         self.clock_count += clocks;

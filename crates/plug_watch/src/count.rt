@@ -32,6 +32,7 @@ impl Count {
     ghost use Rattle.std.specs.Prelude.{◌≡◌, IfOk, [], None, Some, if◌then◌else◌};
     ghost use Rattle.plug_watch.specs.CountSettings.{IsValidCount};
     ghost use Rattle.plug_watch.specs.CountRule.{count_rule};
+    ghost use Rattle.plug_watch.specs.CountConfOf.{room_of};
 
     /// A new plugin, which has processed no cell. It allocates its tables, and room for notes on as many packets as
     /// the buffer holds.
@@ -40,6 +41,7 @@ impl Count {
         ensures rule { IfOk result (λ plugin. ⟦<Count as Plugin>⟧.rule plugin ≡ count_rule conf.now) }
         ensures fresh { IfOk result (λ plugin. ⟦<Count as Plugin>⟧.stands_for plugin [] 0) }
         ensures preallocated { IfOk result (λ plugin. ⟦<Count as Plugin>⟧.preallocated plugin ≡ (if conf.now.all then None else Some buffer)) }
+        ensures reserved { IfOk result (λ plugin. room_of plugin ≡ buffer) }
     {
         Ok(Count {
             pids: PidSet::of(alloc, &conf.pid)?,
@@ -82,18 +84,35 @@ fn fold_below(notes: &mut HeapCircularBuffer<Note>, tally: &mut Tally, mark: u64
 }
 
 impl Plugin for Count {
-    ghost use Rattle.std.specs.Prelude.{None, Some, refl, if◌then◌else◌};
+    ghost use Rattle.std.specs.Prelude.{◌≡◌, ◌≢◌, ◌<◌, IsOk, IsSome, refl};
+    ghost use Rattle.ts_packet.specs.Cells.{Live};
+    ghost use Rattle.chain_model.specs.declared.positions.TheConstants.{POSITION_LIMIT};
+    ghost use Rattle.plugin_trait.specs.Marks.{AllowsMark, GivesLines};
+    ghost use Rattle.plugin_trait.specs.Steps.{HasRoom, Meets, MeetsCells, Tells, left_of};
     ghost use Rattle.plug_watch.specs.CountRule.{count_rule};
-    ghost use Rattle.plug_watch.specs.CountConfOf.{StandsFor, conf_of};
+    ghost use Rattle.plug_watch.specs.CountConfOf.{IsFull, StandsFor, conf_of, preallocated_of, room_of};
 
     ghost rule = { λ s. count_rule (conf_of s) };
 
     ghost stands_for = { λ s history mark. StandsFor s history mark };
 
-    ghost preallocated = { λ s. if s.all then None else Some s.notes.capacity };
+    ghost preallocated = { λ s. preallocated_of s };
 
+    /// The clauses are those of `Plugin`, whose ghost members have no names here, and two more: a step runs out of
+    /// memory only where there is no room for one more note, and the room for notes stays the same.
     #[inline]
-    fn step(&mut self, at: u64, packet: &mut Packet, _labels: &mut Labels) -> Outcome {
+    fn step(&mut self, at: u64, packet: &mut Packet, _labels: &mut Labels) -> Outcome
+        requires met { MeetsCells (StandsFor self.old) at }
+        requires in_range { at < POSITION_LIMIT }
+        ensures tells { Tells (count_rule (conf_of self.old)) (StandsFor self.old) at (Live packet.old _labels.old) result
+            (left_of result packet.new _labels.new) }
+        ensures meets { Meets (StandsFor self.old) (StandsFor self.new) at (Live packet.old _labels.old) result }
+        ensures same_rule { count_rule (conf_of self.new) ≡ count_rule (conf_of self.old) }
+        ensures same_preallocated { preallocated_of self.new ≡ preallocated_of self.old }
+        ensures room { HasRoom (preallocated_of self.old) (StandsFor self.old) at → result ≢ Outcome.NoMemory }
+        ensures full { result ≡ Outcome.NoMemory → IsFull self.old }
+        ensures reserved { room_of self.new ≡ room_of self.old }
+    {
         let pid = packet.pid();
         if !self.pids.selects(self.negate, pid) {
             return Outcome::Pass;
@@ -106,7 +125,16 @@ impl Plugin for Count {
 
     fn pass_over(&mut self, _at: u64) {}
 
-    fn note(&mut self, written: u64, lines: &mut Vec<Line>) -> Result<(), AllocError> {
+    /// The clauses are those of `Plugin`, and one more: the room for notes stays the same.
+    fn note(&mut self, written: u64, lines: &mut Vec<Line>) -> Result<(), AllocError>
+        requires { AllowsMark (StandsFor self.old) written }
+        ensures gives { GivesLines (count_rule (conf_of self.old)) (StandsFor self.old) (StandsFor self.new) written
+            lines.old.items lines.new.items result }
+        ensures same_rule { count_rule (conf_of self.new) ≡ count_rule (conf_of self.old) }
+        ensures same_preallocated { preallocated_of self.new ≡ preallocated_of self.old }
+        ensures room { IsSome (preallocated_of self.old) → IsOk result }
+        ensures reserved { room_of self.new ≡ room_of self.old }
+    {
         push_lines_if(self.all, lines, &self.notes, written)?;
         fold_below(&mut self.notes, &mut self.tally, written);
         Ok(())

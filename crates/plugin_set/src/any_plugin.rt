@@ -69,7 +69,7 @@ impl SeesTables for AnyPlugin {
 }
 
 impl Plugin for AnyPlugin {
-    ghost use Rattle.plugin_set.specs.contracts.some_plugin.SomePluginPlugin.TheImpl.Laws.{valid as some_laws};
+    ghost use Rattle.plugin_set.specs.contracts.some_plugin.SomePluginPlugin.TheImpl.Laws.{lawful as some_laws};
     ghost use Rattle.plugin_set.specs.OnlyLabels.{shown, starts_open_for};
 
     ghost rule = { λ s. ⟦<MaskedPlugin<SomePlugin> as Plugin>⟧.rule s.masked };

@@ -123,8 +123,8 @@ fn counted(rt: &(impl Abort + AllocGlobal), from: &[u8]) -> Result<Vec<u8>, NotR
 #[test]
 fn items_between_fields_are_read_and_written(rt: HostRuntime) {
     let row = [
-        0xC9, 0x03, b'a', 0x00, 0x02, b'b', b'c', 0x02, 0xCA, 0xFE, 0x07,
+        0xC9, 0x06, 0x01, b'a', 0x00, 0x02, b'b', b'c', 0x02, 0xCA, 0xFE, 0x07,
     ];
     same_bytes(&rt, &got(&rt, counted(&rt, &row)), &row);
-    same(&rt, counted(&rt, &row[..10]).err(), Some(NotRead::Outside));
+    same(&rt, counted(&rt, &row[..11]).err(), Some(NotRead::Outside));
 }

@@ -1,6 +1,6 @@
 -- Elements have only whole numbers, and are not deep.
 use Rattle.std.proofs.Common.{◌≡◌, ℕ, suc, ◌≤◌, Bool, true, false, ◌||◌, List, [], ◌∷◌, ◌++◌, map, refl, arith, Ordering, Less, Equal, Greater}
-use Rattle.std.specs.Prelude.{Option, Some, None}
+use Rattle.std.specs.Prelude.{Option, Some, None, if◌then◌else◌}
 use Rattle.std.specs.Ordering.{nat_cmp, match_ordering}
 use Rattle.std.specs.Cmp.Lexicographic.{slice_cmp}
 use Rattle.std.proofs.lemmas.Bool.{or_from, or_parts}
@@ -16,7 +16,7 @@ use Rattle.ts_fields.specs.Layout.{Row, Held}
 use Rattle.ts_fields.specs.Spelling.{holds}
 use Rattle.ts_fields.specs.Texts.{text_of}
 use Rattle.ts_jtree.specs.Elements.{name_key, nodes_key}
-use Rattle.ts_jtree.specs.Shown.{put_attribute, put_attributes, put_number, put_bytes, put_text_of, put_nodes, element_base, element_members}
+use Rattle.ts_jtree.specs.Shown.{put_attribute, put_attributes, put_number, put_bytes, put_text_of, put_unless, put_nodes, element_base, element_members}
 use Rattle.ts_json_descr.specs.DescrElements as descrs
 use Rattle.ts_json_descr.specs.DescrElements.{body_shown, descr_shown, generic_rows, generic_name, shown_by, typed}
 use Rattle.ts_table_rows.specs.TablePages.{ItemPage, TablePage}
@@ -100,11 +100,23 @@ text_plain most (Some text) tabled key b ms all = string_plain most key text ms 
 text_plain most None (Some x) key b ms all = string_plain most _ _ _ (string_plain most key x.1 ms all)
 text_plain most None None key b ms all = string_plain most _ _ ms all
 
+unless_plain : (most : ℕ) (usual : ℕ → Bool) (held : Option Held) (key : List ℕ) (ms : Members) → ArePlain most ms
+    → ArePlain most (put_unless usual held key ms)
+unless_plain most usual None key ms all = all
+unless_plain most usual (Some (rows.number n)) key ms all =
+    elim (usual n) as (λ b. ArePlain most (if b then ms else put key (number (unsigned n)) ms)) [
+      | true ↦ all
+      | false ↦ put_plain most key (number (unsigned n)) ms (flat most (number (unsigned n)) refl refl) all
+    ]
+unless_plain most usual (Some (rows.bytes b)) key ms all = all
+
 attribute_plain : (most : ℕ) (kind : Kind) (key : List ℕ) (held : Option Held) (ms : Members) → ArePlain most ms
     → ArePlain most (put_attribute kind key held ms)
 unfolding put_attribute
 attribute_plain most (kinds.Number count) key held ms all =
     number_plain most held key ms (λ n. number (unsigned n)) (λ n. flat most (number (unsigned n)) refl refl) all
+attribute_plain most (kinds.Reserved count) key held ms all = unless_plain most _ held key ms all
+attribute_plain most (kinds.Zeros count) key held ms all = unless_plain most _ held key ms all
 attribute_plain most (kinds.Ones count) key held ms all = all
 attribute_plain most (kinds.Free count) key held ms all = all
 attribute_plain most kinds.Flag key held ms all = number_plain most held key ms _ (λ n. flat most _ refl refl) all
@@ -116,6 +128,7 @@ attribute_plain most kinds.Language key held ms all = bytes_plain most held ms _
 attribute_plain most kinds.CountedText key held ms all = bytes_plain most held ms _ (λ b. text_plain most (text_of b) _ key b ms all) all
 attribute_plain most kinds.Text key held ms all = bytes_plain most held ms _ (λ b. text_plain most (text_of b) _ key b ms all) all
 attribute_plain most kinds.Hex key held ms all = bytes_plain most held ms _ (λ b. string_plain most key _ ms all) all
+attribute_plain most kinds.CountedHex key held ms all = bytes_plain most held ms _ (λ b. string_plain most key _ ms all) all
 
 attributes_plain : (most : ℕ) (rs : List Row) (values : List Held) (ms : Members) → ArePlain most ms → ArePlain most (put_attributes rs values ms)
 unfolding put_attributes

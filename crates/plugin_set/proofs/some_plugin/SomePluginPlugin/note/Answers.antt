@@ -37,7 +37,14 @@ pub note-requires-in-Count : goal.note-requires-in-Count
 note-requires-in-Count c = rw c.in-Count.is at c.requires
 
 pub returns-in-Count : goal.returns-in-Count
-returns-in-Count c = rw c.in-Count.is c.note-in-Count.ensures
+returns-in-Count c = rw c.in-Count.is (record {
+  gives = c.note-in-Count.ensures.gives;
+  same_rule = c.note-in-Count.ensures.same_rule;
+  same_preallocated = c.note-in-Count.ensures.same_preallocated;
+  room = c.note-in-Count.ensures.room;
+  same_silent = refl;
+  silent = λ silent. absurd (both_ways false refl silent);
+})
 
 pub note-requires-in-Continuity : goal.note-requires-in-Continuity
 note-requires-in-Continuity c = rw c.in-Continuity.is at c.requires
@@ -154,7 +161,14 @@ pub note-requires-in-Pcrverify : goal.note-requires-in-Pcrverify
 note-requires-in-Pcrverify c = rw c.in-Pcrverify.is at c.requires
 
 pub returns-in-Pcrverify : goal.returns-in-Pcrverify
-returns-in-Pcrverify c = rw c.in-Pcrverify.is c.note-in-Pcrverify.ensures
+returns-in-Pcrverify c = rw c.in-Pcrverify.is (record {
+  gives = c.note-in-Pcrverify.ensures.gives;
+  same_rule = c.note-in-Pcrverify.ensures.same_rule;
+  same_preallocated = c.note-in-Pcrverify.ensures.same_preallocated;
+  room = c.note-in-Pcrverify.ensures.room;
+  same_silent = refl;
+  silent = λ silent. absurd (both_ways false refl silent);
+})
 
 pub note-requires-in-Timestamps : goal.note-requires-in-Timestamps
 note-requires-in-Timestamps c = rw c.in-Timestamps.is at c.requires

@@ -36,7 +36,14 @@ pub step-requires-in-Count : goal.step-requires-in-Count
 step-requires-in-Count c = rw c.in-Count.is at c.requires
 
 pub returns-in-Count : goal.returns-in-Count
-returns-in-Count c = rw c.in-Count.is c.step-in-Count.ensures
+returns-in-Count c = rw c.in-Count.is (record {
+  tells = c.step-in-Count.ensures.tells;
+  meets = c.step-in-Count.ensures.meets;
+  same_rule = c.step-in-Count.ensures.same_rule;
+  same_preallocated = c.step-in-Count.ensures.same_preallocated;
+  room = c.step-in-Count.ensures.room;
+  same_silent = refl;
+})
 
 pub step-requires-in-Continuity : goal.step-requires-in-Continuity
 step-requires-in-Continuity c = rw c.in-Continuity.is at c.requires
@@ -153,7 +160,14 @@ pub step-requires-in-Pcrverify : goal.step-requires-in-Pcrverify
 step-requires-in-Pcrverify c = rw c.in-Pcrverify.is at c.requires
 
 pub returns-in-Pcrverify : goal.returns-in-Pcrverify
-returns-in-Pcrverify c = rw c.in-Pcrverify.is c.step-in-Pcrverify.ensures
+returns-in-Pcrverify c = rw c.in-Pcrverify.is (record {
+  tells = c.step-in-Pcrverify.ensures.tells;
+  meets = c.step-in-Pcrverify.ensures.meets;
+  same_rule = c.step-in-Pcrverify.ensures.same_rule;
+  same_preallocated = c.step-in-Pcrverify.ensures.same_preallocated;
+  room = c.step-in-Pcrverify.ensures.room;
+  same_silent = refl;
+})
 
 pub step-requires-in-Timestamps : goal.step-requires-in-Timestamps
 step-requires-in-Timestamps c = rw c.in-Timestamps.is at c.requires
