@@ -6,6 +6,10 @@ use Rattle.std.specs.Prelude.{codes}
 use Rattle.serde_json.specs.Written.{compact_text}
 use Rattle.ts_fields.specs.Bits.{bits, number_of}
 use Rattle.ts_fields.specs.Bodies.{read_page, read_after, read_items, read_loop}
+use Rattle.ts_days.specs.Calendar.{day_of_month, day_of_year}
+use Rattle.ts_days.specs.DayTexts.{day_text}
+use Rattle.ts_days.specs.TimeTexts.{start_text, time_text}
+use Rattle.ts_fields.specs.Times.{is_pair, is_start, is_time}
 use Rattle.ts_fields.specs.Reading.{read_number, read_bytes, read_decimal, read_rest, read_field, read_rows}
 use Rattle.ts_jtree.proofs.OnLiterals.{shown_on_literals}
 use Rattle.ts_json_descr.specs.DescrElements.{descr_shown}
@@ -230,19 +234,19 @@ time-shifted-event-row-2 = refl
 -- 0x58, of biTStream
 local-time-offset-row : compact_text (descr_shown (record { tag = 0x58; body = 0x42 ∷ 0x55 ∷ 0x4C ∷ 0x0B ∷ 0x02 ∷ 0x00 ∷ 0xD6 ∷ 0x5B ∷ 0x23 ∷ 0x31 ∷ 0x30 ∷ 0x03 ∷ 0x00 ∷ 0x55 ∷ 0x53 ∷ 0x41 ∷ 0x26 ∷ 0x14 ∷ 0x00 ∷ 0xCB ∷ 0xC1 ∷ 0x01 ∷ 0x46 ∷ 0x39 ∷ 0x18 ∷ 0x30 ∷ [] }))
     ≡ codes "{\"#name\":\"local_time_offset_descriptor\",\"#nodes\":[{\"#name\":\"region\",\"country_code\":\"BUL\",\"country_region_id\":2,\"local_time_offset\":200,\"local_time_offset_polarity\":1,\"next_time_offset\":300,\"time_of_change\":\"2009-02-13 23:31:30\"},{\"#name\":\"region\",\"country_code\":\"USA\",\"country_region_id\":9,\"local_time_offset\":1400,\"local_time_offset_polarity\":0,\"next_time_offset\":1830,\"time_of_change\":\"2001-09-09 01:46:39\"}]}"
-unfolding bits number_of read_number read_bytes read_decimal read_rest read_field read_rows read_page read_after read_items read_loop second_quarter third_quarter last_quarter shown_on_literals
+unfolding bits number_of read_number read_bytes read_decimal read_rest read_field read_rows read_page read_after read_items read_loop second_quarter third_quarter last_quarter shown_on_literals is_start is_time is_pair start_text day_text day_of_year day_of_month time_text
 local-time-offset-row = refl
 
 -- 0x58, of DVBlast
 local-time-offset-row-2 : compact_text (descr_shown (record { tag = 0x58; body = 0x46 ∷ 0x52 ∷ 0x41 ∷ 0x02 ∷ 0x02 ∷ 0x00 ∷ 0xEC ∷ 0xC2 ∷ 0x02 ∷ 0x00 ∷ 0x00 ∷ 0x01 ∷ 0x00 ∷ 0x47 ∷ 0x52 ∷ 0x43 ∷ 0x02 ∷ 0x03 ∷ 0x00 ∷ 0xEC ∷ 0xC2 ∷ 0x02 ∷ 0x00 ∷ 0x00 ∷ 0x02 ∷ 0x00 ∷ [] }))
     ≡ codes "{\"#name\":\"local_time_offset_descriptor\",\"#nodes\":[{\"#name\":\"region\",\"country_code\":\"FRA\",\"country_region_id\":0,\"local_time_offset\":200,\"local_time_offset_polarity\":0,\"next_time_offset\":100,\"time_of_change\":\"2024-10-27 02:00:00\"},{\"#name\":\"region\",\"country_code\":\"GRC\",\"country_region_id\":0,\"local_time_offset\":300,\"local_time_offset_polarity\":0,\"next_time_offset\":200,\"time_of_change\":\"2024-10-27 02:00:00\"}]}"
-unfolding bits number_of read_number read_bytes read_decimal read_rest read_field read_rows read_page read_after read_items read_loop second_quarter third_quarter last_quarter shown_on_literals
+unfolding bits number_of read_number read_bytes read_decimal read_rest read_field read_rows read_page read_after read_items read_loop second_quarter third_quarter last_quarter shown_on_literals is_start is_time is_pair start_text day_text day_of_year day_of_month time_text
 local-time-offset-row-2 = refl
 
 -- 0x5A, of libdvbpsi
 terrestrial-delivery-system-row : compact_text (descr_shown (record { tag = 0x5A; body = 0x02 ∷ 0xEB ∷ 0xAE ∷ 0x40 ∷ 0x1F ∷ 0x81 ∷ 0x93 ∷ 0xFF ∷ 0xFF ∷ 0xFF ∷ 0xFF ∷ [] }))
     ≡ codes "{\"#name\":\"terrestrial_delivery_system_descriptor\",\"MPE_FEC\":1,\"bandwidth\":0,\"centre_frequency\":49000000,\"code_rate_HP\":1,\"code_rate_LP\":4,\"constellation\":2,\"guard_interval\":2,\"hierarchy\":0,\"other_frequency\":1,\"priority\":1,\"time_slicing\":1,\"transmission_mode\":1}"
-unfolding bits number_of read_number read_bytes read_decimal read_rest read_field read_rows read_page read_after read_items read_loop second_quarter third_quarter last_quarter shown_on_literals
+unfolding bits number_of read_number read_bytes read_decimal read_rest read_field read_rows read_page read_after read_items read_loop second_quarter third_quarter last_quarter shown_on_literals is_start is_time is_pair start_text day_text day_of_year day_of_month time_text
 terrestrial-delivery-system-row = refl
 
 -- 0x5B, of biTStream
