@@ -1,5 +1,5 @@
 -- What a value of `timestamps` keeps, and the cells that it stands for. This project's own rule.
-use Rattle.std.specs.Prelude.{◌≤◌, ℕ, List, length}
+use Rattle.std.specs.Prelude.{◌≤◌, ℕ, List, length, Option, None}
 use Rattle.ts_packet.specs.declared.cell.Cell.{Cell}
 use Rattle.chain_model.specs.declared.positions.TheConstants.{POSITION_LIMIT}
 use Rattle.plugin_notes.specs.NotesKept.{KeepsNotes, notes_below}
@@ -23,3 +23,15 @@ conf_of s = record { pid = s.pids; shown = s.shown }
 -- its parts stand for the cells that were processed, and for the greatest mark
 abbrev pub StandsFor : Timestamps → List Cell → ℕ → Type 0
 StandsFor s history mark = Follows (conf_of s) s.notes.items s.row history mark
+
+-- for how many notes it has room
+abbrev pub room_of : Timestamps → ℕ
+room_of s = s.notes.capacity
+
+-- it has no room for one more note
+abbrev pub IsFull : Timestamps → Type 0
+IsFull s = room_of s ≤ length s.notes.items
+
+-- it names no number of positions at which it never runs out of memory, since its lines need memory at a mark
+abbrev pub preallocated_of : Timestamps → Option ℕ
+preallocated_of _ = None

@@ -32,6 +32,7 @@ impl Timestamps {
     ghost use Rattle.std.specs.Prelude.{◌≡◌, IfOk, [], None};
     ghost use Rattle.plug_times.specs.TimestampsSettings.{IsValidTimestamps};
     ghost use Rattle.plug_times.specs.TimestampsRule.{timestamps_rule};
+    ghost use Rattle.plug_times.specs.TimestampsState.{room_of};
 
     /// A new plugin, which has processed no cell. It allocates its tables, and room for notes on as many packets as
     /// the buffer holds.
@@ -44,6 +45,7 @@ impl Timestamps {
         ensures rule { IfOk result (λ plugin. ⟦<Timestamps as Plugin>⟧.rule plugin ≡ timestamps_rule conf.now) }
         ensures fresh { IfOk result (λ plugin. ⟦<Timestamps as Plugin>⟧.stands_for plugin [] 0) }
         ensures preallocated { IfOk result (λ plugin. ⟦<Timestamps as Plugin>⟧.preallocated plugin ≡ None) }
+        ensures reserved { IfOk result (λ plugin. room_of plugin ≡ buffer) }
     {
         Ok(Timestamps {
             pids: PidSet::of(alloc, &conf.pid)?,
@@ -57,7 +59,8 @@ impl Timestamps {
 // Counts what packets below a position told, and removes it.
 fn fold_below(notes: &mut HeapCircularBuffer<Stamp>, row: &mut StepRow, mark: u64)
     requires { CanFold pid_in IsStepped notes.old.items row.old }
-    ensures { Folds place_of IsStepped mark notes.old.items notes.new.items row.old row.new }
+    ensures folds { Folds place_of IsStepped mark notes.old.items notes.new.items row.old row.new }
+    ensures capacity { notes.new.capacity ≡ notes.old.capacity }
 {
     while let Some(note) = pop_below(notes, mark) {
         row.add(&note);
@@ -65,18 +68,35 @@ fn fold_below(notes: &mut HeapCircularBuffer<Stamp>, row: &mut StepRow, mark: u6
 }
 
 impl Plugin for Timestamps {
-    ghost use Rattle.std.specs.Prelude.{None, refl};
+    ghost use Rattle.std.specs.Prelude.{◌≡◌, ◌≢◌, ◌<◌, IsOk, IsSome, refl};
+    ghost use Rattle.ts_packet.specs.Cells.{Live};
+    ghost use Rattle.chain_model.specs.declared.positions.TheConstants.{POSITION_LIMIT};
+    ghost use Rattle.plugin_trait.specs.Marks.{AllowsMark, GivesLines};
+    ghost use Rattle.plugin_trait.specs.Steps.{HasRoom, Meets, MeetsCells, Tells, left_of};
     ghost use Rattle.plug_times.specs.TimestampsRule.{timestamps_rule};
-    ghost use Rattle.plug_times.specs.TimestampsState.{StandsFor, conf_of};
+    ghost use Rattle.plug_times.specs.TimestampsState.{IsFull, StandsFor, conf_of, preallocated_of, room_of};
 
     ghost rule = { λ s. timestamps_rule (conf_of s) };
 
     ghost stands_for = { λ s history mark. StandsFor s history mark };
 
-    ghost preallocated = { λ s. None };
+    ghost preallocated = { λ s. preallocated_of s };
 
+    /// The clauses are those of `Plugin`, whose ghost members have no names here, and two more: a step runs out of
+    /// memory only where there is no room for one more note, and the room for notes stays the same.
     #[inline]
-    fn step(&mut self, at: u64, packet: &mut Packet, _labels: &mut Labels) -> Outcome {
+    fn step(&mut self, at: u64, packet: &mut Packet, _labels: &mut Labels) -> Outcome
+        requires met { MeetsCells (StandsFor self.old) at }
+        requires in_range { at < POSITION_LIMIT }
+        ensures tells { Tells (timestamps_rule (conf_of self.old)) (StandsFor self.old) at (Live packet.old _labels.old) result
+            (left_of result packet.new _labels.new) }
+        ensures meets { Meets (StandsFor self.old) (StandsFor self.new) at (Live packet.old _labels.old) result }
+        ensures same_rule { timestamps_rule (conf_of self.new) ≡ timestamps_rule (conf_of self.old) }
+        ensures same_preallocated { preallocated_of self.new ≡ preallocated_of self.old }
+        ensures room { HasRoom (preallocated_of self.old) (StandsFor self.old) at → result ≢ Outcome.NoMemory }
+        ensures full { result ≡ Outcome.NoMemory → IsFull self.old }
+        ensures reserved { room_of self.new ≡ room_of self.old }
+    {
         if !self.pids.selects(false, packet.pid()) {
             return Outcome::Pass;
         }
@@ -88,7 +108,16 @@ impl Plugin for Timestamps {
 
     fn pass_over(&mut self, _at: u64) {}
 
-    fn note(&mut self, written: u64, lines: &mut Vec<Line>) -> Result<(), AllocError> {
+    /// The clauses are those of `Plugin`, and one more: the room for notes stays the same.
+    fn note(&mut self, written: u64, lines: &mut Vec<Line>) -> Result<(), AllocError>
+        requires { AllowsMark (StandsFor self.old) written }
+        ensures gives { GivesLines (timestamps_rule (conf_of self.old)) (StandsFor self.old) (StandsFor self.new) written
+            lines.old.items lines.new.items result }
+        ensures same_rule { timestamps_rule (conf_of self.new) ≡ timestamps_rule (conf_of self.old) }
+        ensures same_preallocated { preallocated_of self.new ≡ preallocated_of self.old }
+        ensures room { IsSome (preallocated_of self.old) → IsOk result }
+        ensures reserved { room_of self.new ≡ room_of self.old }
+    {
         push_lines_below(lines, &self.notes, written, self.shown)?;
         fold_below(&mut self.notes, &mut self.row, written);
         Ok(())

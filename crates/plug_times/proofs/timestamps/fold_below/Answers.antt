@@ -1,3 +1,4 @@
+use Rattle.std.proofs.Common.{refl, ◌∙◌}
 use Rattle.plugin_notes.proofs.FoldingSteps as folding
 use Rattle.plug_times.specs.ClockSteps.{IsStepped}
 use Rattle.plug_times.specs.StampTexts.{pid_in, place_of}
@@ -6,6 +7,7 @@ use Rattle.plug_times.proofs.timestamps.fold_below.Goals as goal
 pub loop-note-init : goal.loop-note-init
 loop-note-init c = record {
   folding = folding.none_folded place_of c.args.mark IsStepped c.args.notes.now.items c.args.row.now;
+  capacity = refl;
 }
 
 pub add-requires-clause-on_pid : goal.add-requires-clause-on_pid
@@ -23,8 +25,9 @@ pub loop-note-preserved : goal.loop-note-preserved
 loop-note-preserved c = record {
   folding = folding.one_folded place_of c.args.mark IsStepped _ _ _ _ c.loop-note.invariant.folding c.in-Some.note c.pop_below.new.notes.items c.in-Some.ensures.taken.0 c.add.new.self
       c.in-Some.ensures.taken.1 (λ notes stepped. c.add.ensures notes stepped);
+  capacity = c.in-Some.ensures.capacity ∙ c.loop-note.invariant.capacity;
 }
 
-pub returns : goal.returns
-returns c =
+pub returns-clause-folds : goal.returns-clause-folds
+returns-clause-folds c =
     folding.all_folded place_of c.args.mark IsStepped _ _ c.pop_below.new.notes.items _ _ c.loop-note.invariant.folding c.in_default.ensures.left.0 c.in_default.ensures.left.1

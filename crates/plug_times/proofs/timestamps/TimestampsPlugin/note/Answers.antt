@@ -9,7 +9,7 @@ fold_below-requires c = can_fold (conf_of c.args.self.now) _ _ _ _ c.requires.ho
 
 pub returns-clause-gives : goal.returns-clause-gives
 returns-clause-gives c = λ history mark w le within.
-    let folds = c.fold_below.ensures in (
+    let folds = c.fold_below.ensures.folds in (
       follows_to (conf_of c.args.self.now) _ _ history mark w c.args.written _ le within _ folds,
       c.in_ok-push_lines_below.ensures.ok
           ∙ ap (λ (lines : List Line). c.args.lines.now.items ++ lines) (given_is (conf_of c.args.self.now) _ _ history mark w c.args.written _ le within folds.takes),

@@ -174,4 +174,11 @@ pub note-requires-in-Timestamps : goal.note-requires-in-Timestamps
 note-requires-in-Timestamps c = rw c.in-Timestamps.is at c.requires
 
 pub returns-in-Timestamps : goal.returns-in-Timestamps
-returns-in-Timestamps c = rw c.in-Timestamps.is c.note-in-Timestamps.ensures
+returns-in-Timestamps c = rw c.in-Timestamps.is (record {
+  gives = c.note-in-Timestamps.ensures.gives;
+  same_rule = c.note-in-Timestamps.ensures.same_rule;
+  same_preallocated = c.note-in-Timestamps.ensures.same_preallocated;
+  room = c.note-in-Timestamps.ensures.room;
+  same_silent = refl;
+  silent = λ silent. absurd (both_ways false refl silent);
+})

@@ -173,4 +173,11 @@ pub step-requires-in-Timestamps : goal.step-requires-in-Timestamps
 step-requires-in-Timestamps c = rw c.in-Timestamps.is at c.requires
 
 pub returns-in-Timestamps : goal.returns-in-Timestamps
-returns-in-Timestamps c = rw c.in-Timestamps.is c.step-in-Timestamps.ensures
+returns-in-Timestamps c = rw c.in-Timestamps.is (record {
+  tells = c.step-in-Timestamps.ensures.tells;
+  meets = c.step-in-Timestamps.ensures.meets;
+  same_rule = c.step-in-Timestamps.ensures.same_rule;
+  same_preallocated = c.step-in-Timestamps.ensures.same_preallocated;
+  room = c.step-in-Timestamps.ensures.room;
+  same_silent = refl;
+})
