@@ -1,5 +1,5 @@
 -- Tables whose PIDs are mapped, one packet more.
-use Rattle.std.proofs.Common.{◌≡◌, ℕ, ◌||◌, true, false, List, [], ◌∷◌, ◌++◌, Option, Some, None, sym, ◌∙◌, ap, subst}
+use Rattle.std.proofs.Common.{◌≡◌, ⊥, Result, Ok, Err, ℕ, ◌||◌, true, false, List, [], ◌∷◌, ◌++◌, Option, Some, None, sym, ◌∙◌, ap, subst}
 use Rattle.std.specs.Prelude.{MatchOption, nat_eq}
 use Rattle.ts_packet.specs.Header.{pid_of}
 use Rattle.ts_demux.specs.TablesOn.{Completes, packets_on}
@@ -46,6 +46,14 @@ none-told P Q (Some x) e m = cc
 pub some-told : {X : Type 0} (P : Type 0) (Q : X → Type 0) (o : Option X) (x : X) → o ≡ Some x → MatchOption o P Q → Q x
 some-told P Q None x e m = cc
 some-told P Q (Some y) x e m = subst Q (let same : y ≡ x = cc in same) m
+
+-- an error is no value, and one is not none
+pub err-none : {X E : Type 0} (e : E) (v : X) → (let r : Result X E = Err e in r) ≡ Ok v → ⊥
+err-none e v same = cc
+
+pub some-none : {X E : Type 0} (o : Option X) (x : X) → o ≡ Some x → (let r : Result (Option X) E = Ok o in r) ≡ Ok None → ⊥
+some-none None x e same = cc
+some-none (Some y) x e same = cc
 
 -- what the rule makes of a packet that is edited
 pub made-edited :

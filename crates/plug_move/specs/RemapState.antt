@@ -30,6 +30,11 @@ TablesStand pairs tables history = MapperStands pairs tables (live_packets histo
 abbrev pub MeetsHistory : RemapSteps → List Cell → Type 0
 MeetsHistory s history = TablesStand s.table.0 s.tables history × IsFirstFind (moves s.table.0) history s.found
 
+-- what edits tables, if anything does, stands for the packets that were processed, and memory did not run out
+abbrev pub IsWorking : List (ℕ × ℕ) → Option TableMapper → List (List ℕ) → Type 0
+IsWorking pairs None met = Unit {0}
+IsWorking pairs (Some mapper) met = StandsFor pairs mapper met
+
 -- memory ran out
 abbrev pub HasFailed : Option TableMapper → Type 0
 HasFailed None = ⊥

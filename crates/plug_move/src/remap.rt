@@ -1,11 +1,13 @@
 //! The plugin `remap`.
 
-ghost use Rattle.std.specs.Prelude.{◌≡◌, ◌<◌, IfOk, [], None, Some, is_none, if◌then◌else◌};
+ghost use Rattle.std.specs.Prelude.{◌≡◌, ◌≢◌, ◌<◌, ℕ, List, IfOk, [], None, Some, false, is_none, if◌then◌else◌};
 ghost use Rattle.std.specs.Option.{ForSome};
 ghost use Rattle.ts_packet.specs.declared.numbers.TheConstants.{PID_COUNT};
 ghost use Rattle.plug_move.specs.RemapRule.{remap_rule};
 ghost use Rattle.plug_move.specs.RemapSettings.{IsValidRemap};
-ghost use Rattle.plug_move.specs.RemapState.{GoesOn, MapperStands};
+ghost use Rattle.plug_move.specs.RemapState.{GoesOn, IsWorking, MapperStands};
+ghost use Rattle.plug_psi.specs.Referred.{may_name_pids};
+ghost use Rattle.ts_packet.specs.Header.{pid_of};
 
 use crate::move_table::{Move, MoveTable};
 use crate::remap_conf::RemapConf;
@@ -66,9 +68,16 @@ impl RemapSteps {
 }
 
 impl Steps for RemapSteps {
-    ghost use Rattle.std.specs.Prelude.{refl};
+    ghost use Rattle.std.specs.Prelude.{◌≡◌, ◌≢◌, ◌<◌, List, false, refl};
+    ghost use Rattle.ts_packet.specs.declared.cell.Cell.{Cell};
+    ghost use Rattle.ts_packet.specs.Cells.{Live, live_packets};
+    ghost use Rattle.ts_packet.specs.Header.{pid_of};
+    ghost use Rattle.chain_model.specs.declared.positions.TheConstants.{POSITION_LIMIT};
+    ghost use Rattle.plugin_trait.specs.Steps.{HasRoom, MeetsCells, Meets, Tells, left_of};
+    ghost use Rattle.plugin_trait.specs.Unmarked.{unmarked};
+    ghost use Rattle.plug_psi.specs.Referred.{may_name_pids};
     ghost use Rattle.plug_move.specs.RemapRule.{remap_rule};
-    ghost use Rattle.plug_move.specs.RemapState.{MeetsHistory, conf_of, room_of};
+    ghost use Rattle.plug_move.specs.RemapState.{IsWorking, MeetsHistory, conf_of, room_of};
 
     ghost rule = { λ s. remap_rule (conf_of s) };
 
@@ -76,8 +85,22 @@ impl Steps for RemapSteps {
 
     ghost preallocated = { λ s. room_of s.tables s.buffer };
 
+    /// The clauses are those of `Steps`, whose ghost members have no names here, and one more: a packet on a PID whose
+    /// tables are not edited needs no memory.
     #[inline]
-    fn step(&mut self, at: u64, packet: &mut Packet, _labels: &mut Labels) -> Outcome {
+    fn step(&mut self, at: u64, packet: &mut Packet, _labels: &mut Labels) -> Outcome
+        requires met { MeetsCells (unmarked (MeetsHistory self.old)) at }
+        requires in_range { at < POSITION_LIMIT }
+        ensures tells { Tells (remap_rule (conf_of self.old)) (unmarked (MeetsHistory self.old)) at
+            (Live packet.old _labels.old) result (left_of result packet.new _labels.new) }
+        ensures meets { Meets (unmarked (MeetsHistory self.old)) (unmarked (MeetsHistory self.new)) at
+            (Live packet.old _labels.old) result }
+        ensures same_rule { remap_rule (conf_of self.new) ≡ remap_rule (conf_of self.old) }
+        ensures same_preallocated { room_of self.new.tables self.new.buffer ≡ room_of self.old.tables self.old.buffer }
+        ensures room { HasRoom (room_of self.old.tables self.old.buffer) (unmarked (MeetsHistory self.old)) at → result ≢ Outcome.NoMemory }
+        ensures quiet { (history : List Cell) → IsWorking self.old.table.0 self.old.tables (live_packets history)
+            → may_name_pids (pid_of packet.old) (live_packets history) ≡ false → result ≢ Outcome.NoMemory }
+    {
         let pid = packet.pid();
         match self.table.look_up(pid) {
             Move::Keep => go_on(&mut self.tables, at, packet, None),
@@ -114,7 +137,7 @@ fn tables_of(alloc: Global, conf: &RemapConf) -> Result<Option<TableMapper>, All
     Ok(Some(mapper))
 }
 
-/// Edits and moves the packet at a position, which is not refused.
+/// Edits and moves the packet at a position, which is not refused. One on a PID whose tables are not edited needs no memory.
 #[inline]
 fn go_on(
     tables: &mut Option<TableMapper>,
@@ -125,6 +148,8 @@ fn go_on(
     requires { ForSome target (λ pid. pid < PID_COUNT) }
     ensures made { GoesOn tables.old tables.new target packet.old packet.new result }
     ensures same { is_none tables.new ≡ is_none tables.old }
+    ensures quiet { (pairs : List (ℕ × ℕ)) (met : List (List ℕ)) → IsWorking pairs tables.old met
+        → may_name_pids (pid_of packet.old) met ≡ false → result ≢ Outcome.NoMemory }
 {
     let Some(mapper) = tables else {
         move_to(packet, target);

@@ -1,6 +1,6 @@
 //! Tables whose PIDs are mapped, in a running stream.
 
-ghost use Rattle.std.specs.Prelude.{◌≡◌, ℕ, ◌<◌, ◌++◌, ◌∷◌, [], List, true, false, IfOk, IfSome, MatchOption, OnOk, OnErr, IsErr};
+ghost use Rattle.std.specs.Prelude.{◌≡◌, ℕ, ◌<◌, ◌++◌, ◌∷◌, [], List, None, true, false, IfOk, IfSome, IsOk, MatchOption, OnOk, OnErr, IsErr};
 ghost use Rattle.std.specs.Option.{ForSome};
 ghost use Rattle.std.specs.List.{All};
 ghost use Rattle.ts_packet.specs.Header.{pid_of};
@@ -8,6 +8,7 @@ ghost use Rattle.ts_packet.specs.declared.numbers.TheConstants.{PID_COUNT, NULL_
 ghost use Rattle.ts_demux.specs.PidTables as reading;
 ghost use Rattle.ts_demux.specs.TablesOn.{packets_on};
 ghost use Rattle.plug_psi.specs.ForceStands as forcing;
+ghost use Rattle.plug_psi.specs.Referred.{may_name_pids};
 ghost use Rattle.plug_move.specs.CompletedTables.{IsCompleted};
 ghost use Rattle.plug_move.specs.RemapRule.{is_edited, moved_edited, moved_to, with_tables};
 ghost use Rattle.plug_move.specs.RemapSettings.{IsPidPair};
@@ -70,7 +71,7 @@ impl TableMapper {
     }
 
     /// Processes the packet at a position, whose PID has this target or none: edits and moves it. After `AllocError` the packet is as
-    /// it was, and every later call returns `AllocError`.
+    /// it was, and every later call returns `AllocError`. A packet on a PID whose tables are not edited needs no memory.
     pub(crate) fn step(
         &mut self,
         at: u64,
@@ -85,6 +86,8 @@ impl TableMapper {
         ensures as_it_was { OnErr result (packet.new ≡ packet.old) }
         ensures spent { OnErr result (has_failed self.new ≡ true) }
         ensures stays_spent { has_failed self.old ≡ true → IsErr result }
+        ensures quiet { (pairs : List (ℕ × ℕ)) (met : List (List ℕ)) → StandsFor pairs self.old met
+            → may_name_pids (pid_of packet.old) met ≡ false → IsOk result }
     {
         self.failed.check()?;
         let answer = self.advance(at, packet, target);
@@ -112,6 +115,8 @@ impl TableMapper {
             → StandsFor pairs self.new (met ++ packet.old ∷ [])) }
         ensures as_it_was { OnErr result (packet.new ≡ packet.old) }
         ensures same_failed { has_failed self.new ≡ has_failed self.old }
+        ensures quiet { (pairs : List (ℕ × ℕ)) (met : List (List ℕ)) → StandsFor pairs self.old met
+            → may_name_pids (pid_of packet.old) met ≡ false → IsOk result }
     {
         // A law, which runs nothing.
         unfollowed_packets_change_nothing::<PidEditor>();
@@ -164,6 +169,7 @@ fn tables_with(
     ensures tables { IfOk result (λ tables. (met : List (List ℕ)) → forcing.StandsFor force.old met → reading.StandsFor cats.old 1 (packets_on 1 met)
         → MatchOption tables (is_edited (pid_of packet.now) (met ++ packet.now ∷ []) ≡ false) (λ tables. IsCompleted met packet.now tables.items)) }
     ensures in_range { IfOk result (λ tables. IfSome tables (λ _. pid_of packet.now < LAST_PID)) }
+    ensures quiet { (met : List (List ℕ)) → forcing.StandsFor force.old met → may_name_pids (pid_of packet.now) met ≡ false → result ≡ Ok None }
 {
     force.update(at, packet)?;
     let pid = packet.pid();

@@ -1,5 +1,5 @@
 -- When a value of `tables` stands for the cells that it processed. This project's own rule.
-use Rattle.std.specs.Prelude.{Bool, ℕ, List}
+use Rattle.std.specs.Prelude.{◌≡◌, ◌≤◌, Bool, false, ℕ, List, length}
 use Rattle.ts_packet.specs.declared.cell.Cell.{Cell}
 use Rattle.chain_model.specs.PluginRule.{PluginRule}
 use Rattle.plug_tables.specs.TablesRule.{rule_with}
@@ -18,3 +18,7 @@ rule_in s = rule_with (choice_in s.reader) s.tids
 -- its parts stand for the cells and the greatest mark
 abbrev pub StandsFor : Tables → List Cell → ℕ → Type 0
 StandsFor s history mark = TellsTables s.reader s.tids s.told.items history mark
+
+-- a value of `tables` stands for the cells, unless memory ran out
+abbrev pub MeetsHistory : Tables → List Cell → ℕ → Type 0
+MeetsHistory s history mark = (has_failed s ≡ false → StandsFor s history mark) × (mark ≤ length history)

@@ -6,7 +6,7 @@ use Rattle.ts_packet.specs.declared.numbers.TheConstants.{NULL_PID}
 use Rattle.plugin_options.specs.NumberSet.{has_number}
 use Rattle.ts_demux.specs.TablesOn.{tables_on}
 use Rattle.ts_demux.specs.TakenWhere.{taken_on}
-use Rattle.plug_psi.specs.InForce.{names, pat_of}
+use Rattle.plug_psi.specs.InForce.{may_have_tables, names, pat_of}
 
 -- which PIDs are watched: those that are listed, and whether also those of the PMTs that the PAT in force names
 pub record Choice : Type 0 where
@@ -23,6 +23,11 @@ usual = record { listed = (0, 1) ∷ (16, 18) ∷ []; follows = true }
 abbrev pub is_watched : Choice → ℕ → List (List ℕ) → Bool
 is_watched choice pid packets =
     (has_number choice.listed pid || (choice.follows && names (pat_of packets) pid)) && not (pid == NULL_PID)
+
+-- whether a packet is read after some packets: tables in force may come with it, or it is watched
+abbrev pub may_be_read : Choice → List (List ℕ) → List ℕ → Bool
+may_be_read choice packets packet =
+    may_have_tables (pid_of packet) packets || is_watched choice (pid_of packet) (packets ++ packet ∷ [])
 
 -- the tables that the watched packets of a PID complete
 abbrev pub watched_tables : Choice → ℕ → List (List ℕ) → List (List (List ℕ))

@@ -24,11 +24,11 @@ pub struct TableReader {
 }
 
 impl TableReader {
-    ghost use Rattle.std.specs.Prelude.{◌≡◌, ◌<◌, ◌∷◌, ◌++◌, ℕ, [], List, true, IfOk, OnOk};
+    ghost use Rattle.std.specs.Prelude.{◌≡◌, ◌<◌, ◌∷◌, ◌++◌, ℕ, [], List, true, false, IfOk, IsOk, OnOk};
     ghost use Rattle.ts_packet.specs.Header.{pid_of};
     ghost use Rattle.plug_psi.specs.ForceStands.{StandsFor as IsFed};
     ghost use Rattle.plug_tables.specs.TablesRule.{choice_of};
-    ghost use Rattle.plug_tables.specs.WatchedPackets.{is_watched, tables_with};
+    ghost use Rattle.plug_tables.specs.WatchedPackets.{is_watched, may_be_read, tables_with};
     ghost use Rattle.plug_tables.specs.TableReaderState.{HasMet, choice_in};
 
     /// A new reader, which has processed no packet. The PIDs that are watched are those of a list, or the usual ones
@@ -47,12 +47,14 @@ impl TableReader {
     }
 
     /// Processes the next packet, of any PID, which has a position, and returns the tables that it completes on its PID, if that is watched.
-    /// After `AllocError` it is not to be used any more.
+    /// After `AllocError` it is not to be used any more. A packet that is not read needs no memory, and completes none.
     pub fn meet(&mut self, at: u64, packet: &Packet) -> Result<Vec<TableRun>, AllocError>
         ensures stands { OnOk result ((met : List (List ℕ)) → HasMet self.old met → HasMet self.new (met ++ packet.now ∷ [])) }
         ensures tables { IfOk result (λ tables. (met : List (List ℕ)) → HasMet self.old met
             → tables.items ≡ tables_with (choice_in self.old) met packet.now) }
         ensures choice { choice_in self.new ≡ choice_in self.old }
+        ensures quiet { (met : List (List ℕ)) → HasMet self.old met → may_be_read (choice_in self.old) met packet.now ≡ false
+            → IfOk result (λ tables. tables.items ≡ []) × IsOk result }
     {
         // A law, which runs nothing.
         unfollowed_packets_change_nothing::<PidTables>();

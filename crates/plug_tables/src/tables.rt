@@ -30,12 +30,14 @@ pub struct Tables {
 }
 
 impl Tables {
-    ghost use Rattle.std.specs.Prelude.{◌≡◌, ◌<◌, ◌∷◌, ◌++◌, IfOk, OnOk, OnErr, IsErr, [], None, ℕ, List, length, true};
+    ghost use Rattle.std.specs.Prelude.{◌≡◌, ◌<◌, ◌∷◌, ◌++◌, IfOk, OnOk, OnErr, IsErr, IsOk, [], None, ℕ, List, length, true, false};
     ghost use Rattle.ts_packet.specs.declared.cell.Cell.{Cell as GivenCell};
-    ghost use Rattle.ts_packet.specs.Cells.{Live};
+    ghost use Rattle.ts_packet.specs.Cells.{Live, live_packets};
     ghost use Rattle.plug_tables.specs.TablesRule.{tables_rule};
     ghost use Rattle.plug_tables.specs.TablesSettings.{IsValidTables};
+    ghost use Rattle.plug_tables.specs.TableReaderState.{choice_in};
     ghost use Rattle.plug_tables.specs.TablesStands.{StandsFor, has_failed, rule_in};
+    ghost use Rattle.plug_tables.specs.WatchedPackets.{may_be_read};
 
     /// A new plugin, which has processed no cell. What is kept of the tables grows with the stream.
     pub fn new(alloc: Global, conf: &TablesConf, buffer: usize) -> Result<Tables, AllocError>
@@ -75,6 +77,8 @@ impl Tables {
         ensures same_rule { rule_in self.new ≡ rule_in self.old }
         ensures spent { OnErr result (has_failed self.new ≡ true) }
         ensures stays_spent { has_failed self.old ≡ true → IsErr result }
+        ensures quiet { (history : List GivenCell) (mark : ℕ) → has_failed self.old ≡ false → StandsFor self.old history mark
+            → may_be_read (choice_in self.old.reader) (live_packets history) packet.now ≡ false → IsOk result }
     {
         self.failed.check()?;
         let answer = self.take(at, packet);
@@ -87,6 +91,8 @@ impl Tables {
         ensures met { OnOk result ((history : List GivenCell) (mark : ℕ) → StandsFor self.old history mark → length history ≡ at → (labels : ℕ)
             → StandsFor self.new (history ++ Live packet.now labels ∷ []) mark) }
         ensures same_rule { rule_in self.new ≡ rule_in self.old }
+        ensures quiet { (history : List GivenCell) (mark : ℕ) → StandsFor self.old history mark
+            → may_be_read (choice_in self.old.reader) (live_packets history) packet.now ≡ false → IsOk result }
     {
         let tables = self.reader.meet(at, packet)?;
         let pid = packet.pid();
@@ -134,17 +140,35 @@ fn give_below(told: &mut VecDeque<Line>, lines: &mut Vec<Line>, mark: u64) -> Re
 }
 
 impl Plugin for Tables {
-    ghost use Rattle.std.specs.Prelude.{◌≡◌, ◌≤◌, length, false, None, refl};
-    ghost use Rattle.plug_tables.specs.TablesStands.{StandsFor, has_failed, rule_in};
+    ghost use Rattle.std.specs.Prelude.{◌≡◌, ◌≢◌, ◌<◌, ℕ, List, false, None, refl};
+    ghost use Rattle.ts_packet.specs.declared.cell.Cell.{Cell as GivenCell};
+    ghost use Rattle.ts_packet.specs.Cells.{Live, live_packets};
+    ghost use Rattle.chain_model.specs.declared.positions.TheConstants.{POSITION_LIMIT};
+    ghost use Rattle.plugin_trait.specs.Steps.{HasRoom, Meets, MeetsCells, Tells, left_of};
+    ghost use Rattle.plug_tables.specs.TableReaderState.{choice_in};
+    ghost use Rattle.plug_tables.specs.TablesStands.{MeetsHistory, StandsFor, has_failed, rule_in};
+    ghost use Rattle.plug_tables.specs.WatchedPackets.{may_be_read};
 
     ghost rule = { λ s. rule_in s };
 
-    ghost stands_for = { λ s history mark. (has_failed s ≡ false → StandsFor s history mark) × (mark ≤ length history) };
+    ghost stands_for = { λ s history mark. MeetsHistory s history mark };
 
     ghost preallocated = { λ _. None };
 
+    /// The clauses are those of `Plugin`, whose ghost members have no names here, and one more: a packet that is not read
+    /// needs no memory.
     #[inline]
-    fn step(&mut self, at: u64, packet: &mut Packet, _labels: &mut Labels) -> Outcome {
+    fn step(&mut self, at: u64, packet: &mut Packet, _labels: &mut Labels) -> Outcome
+        requires met { MeetsCells (MeetsHistory self.old) at }
+        requires in_range { at < POSITION_LIMIT }
+        ensures tells { Tells (rule_in self.old) (MeetsHistory self.old) at (Live packet.old _labels.old) result
+            (left_of result packet.new _labels.new) }
+        ensures meets { Meets (MeetsHistory self.old) (MeetsHistory self.new) at (Live packet.old _labels.old) result }
+        ensures same_rule { rule_in self.new ≡ rule_in self.old }
+        ensures room { HasRoom None (MeetsHistory self.old) at → result ≢ Outcome.NoMemory }
+        ensures quiet { (history : List GivenCell) (mark : ℕ) → has_failed self.old ≡ false → StandsFor self.old history mark
+            → may_be_read (choice_in self.old.reader) (live_packets history) packet.old ≡ false → result ≢ Outcome.NoMemory }
+    {
         match self.meet(at, packet) {
             Ok(()) => Outcome::Pass,
             Err(_) => Outcome::NoMemory,

@@ -1,5 +1,5 @@
 //! Tables as lines of a report.
-ghost use Rattle.std.specs.Prelude.{◌≡◌, ◌++◌, ◌∷◌, [], IfOk, OnOk};
+ghost use Rattle.std.specs.Prelude.{◌≡◌, ◌++◌, ◌∷◌, [], IfOk, IsOk, OnOk};
 ghost use Rattle.std.specs.String.{string_bytes};
 ghost use Rattle.serde_json.specs.Written.{compact_text};
 ghost use Rattle.ts_json_tables.specs.HeldTables.{table_value};
@@ -15,7 +15,8 @@ use std::collections::VecDeque;
 use ts_json_tables::{Table, shown_table_is_plain, table_of, to_json};
 use ts_section::TableRun;
 
-/// Appends the lines of the tables that are reported. All are complete with the packet at a position on a PID.
+/// Appends the lines of the tables that are reported. All are complete with the packet at a position on a PID. Where there
+/// are none, no memory is needed.
 pub fn tell_tables(
     alloc: Global,
     told: &mut VecDeque<Line>,
@@ -24,7 +25,8 @@ pub fn tell_tables(
     pid: u16,
     tables: &[TableRun],
 ) -> Result<(), AllocError>
-    ensures { OnOk result (told.new.items ≡ told.old.items ++ placed_at at (table_texts tids.now at pid tables.now)) }
+    ensures told { OnOk result (told.new.items ≡ told.old.items ++ placed_at at (table_texts tids.now at pid tables.now)) }
+    ensures none { tables.now ≡ [] → IsOk result }
 {
     for table in tables {
         tell_table(alloc, told, tids, at, pid, table)?;

@@ -1,12 +1,14 @@
-use Rattle.std.proofs.Common.{◌≡◌, ◌==◌, false, true, [], ◌∷◌, ◌++◌, sym, ◌∙◌, ap, refl, subst}
+use Rattle.std.proofs.Common.{◌≡◌, ◌==◌, false, true, [], ◌∷◌, ◌++◌, sym, ◌∙◌, ap, refl, subst, true≢false, arith}
 use Rattle.std.proofs.lemmas.Bool.{ne_eqb}
 use Rattle.ts_packet.specs.Header.{pid_of}
 use Rattle.ts_demux.specs.PidTables.{StandsFor}
 use Rattle.ts_demux.specs.TablesOn.{packets_on}
 use Rattle.ts_demux.proofs.TakenLemmas.{on-other, on-own}
-use Rattle.plug_psi.specs.InForce.{follows}
+use Rattle.plug_psi.specs.InForce.{follows, is_named, may_have_tables}
+use Rattle.plug_psi.proofs.Choice.{neither}
+use Rattle.plug_psi.proofs.ForceLemmas.{pat-other}
 use Rattle.plug_move.specs.CompletedTables.{IsCompleted}
-use Rattle.plug_move.proofs.MapperLemmas.{fixed-completed, named-completed, not-fixed}
+use Rattle.plug_move.proofs.MapperLemmas.{err-none, fixed-completed, named-completed, not-fixed}
 use Rattle.plug_move.proofs.table_mapper.tables_with.Goals as goal
 
 pub returns-then-pid-eq-PAT_PID-clause-tables : goal.returns-then-pid-eq-PAT_PID-clause-tables
@@ -49,3 +51,37 @@ returns-then-pid-eq-PAT_PID-clause-force c = λ met f. c.take_pats.ensures.stand
 
 pub returns-then-follows-clause-force : goal.returns-then-follows-clause-force
 returns-then-follows-clause-force c = λ met f. c.take_pmts.ensures.stands _ (c.in_ok-update.ensures.stands met f)
+
+pub returns-in_err-update-clause-quiet : goal.returns-in_err-update-clause-quiet
+returns-in_err-update-clause-quiet c = λ met f unread.
+    absurd (err-none _ _ (c.in_err-update.ensures.quiet met f (neither (pid_of c.args.packet.now == 1) (may_have_tables (pid_of c.args.packet.now) met) unread).1))
+
+pub returns-then-pid-eq-PAT_PID-clause-quiet : goal.returns-then-pid-eq-PAT_PID-clause-quiet
+returns-then-pid-eq-PAT_PID-clause-quiet c = λ met f unread.
+    let pid = pid_of c.args.packet.now in
+    let first = neither (pid == 1) (may_have_tables pid met) unread in
+    let at : pid ≡ 0 = sym c.pid-pid.ensures.field ∙ c.if-pid-eq-PAT_PID.true in
+    absurd (true≢false (sym (ap (λ n. n == 0) at) ∙ (neither (pid == 0) (follows pid met) first.1).0))
+
+pub returns-in_err-tables-clause-quiet : goal.returns-in_err-tables-clause-quiet
+returns-in_err-tables-clause-quiet c = λ met f unread.
+    let pid = pid_of c.args.packet.now in
+    let at : pid ≡ 1 = sym c.pid-pid.ensures.field ∙ c.if-pid-eq-CAT_PID.true in
+    absurd (true≢false (sym (ap (λ n. n == 1) at) ∙ (neither (pid == 1) (may_have_tables pid met) unread).0))
+
+pub returns-then-pid-eq-CAT_PID-clause-quiet : goal.returns-then-pid-eq-CAT_PID-clause-quiet
+returns-then-pid-eq-CAT_PID-clause-quiet c = λ met f unread.
+    let pid = pid_of c.args.packet.now in
+    let at : pid ≡ 1 = sym c.pid-pid.ensures.field ∙ c.if-pid-eq-CAT_PID.true in
+    absurd (true≢false (sym (ap (λ n. n == 1) at) ∙ (neither (pid == 1) (may_have_tables pid met) unread).0))
+
+pub returns-then-follows-clause-quiet : goal.returns-then-follows-clause-quiet
+returns-then-follows-clause-quiet c = λ met f unread.
+    let packet = c.args.packet.now in
+    let pid = pid_of packet in
+    let upto = met ++ packet ∷ [] in
+    let first = neither (pid == 1) (may_have_tables pid met) unread in
+    let second = neither (pid == 0) (follows pid met) first.1 in
+    let here : follows pid upto ≡ true =
+    ap (λ n. follows n upto) (sym c.pid-pid.ensures.field) ∙ (sym (c.follows.ensures upto (c.in_ok-update.ensures.stands met f)) ∙ c.if-follows.true) in
+    absurd (true≢false (sym here ∙ (ap (λ pat. is_named pat pid) (pat-other met packet second.0) ∙ second.1)))

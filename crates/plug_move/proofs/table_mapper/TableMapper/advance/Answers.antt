@@ -1,5 +1,5 @@
 use Rattle.plug_move.specs.RemapRule.{is_edited}
-use Rattle.plug_move.proofs.MapperLemmas.{made-edited, made-unedited, none-told, some-told}
+use Rattle.plug_move.proofs.MapperLemmas.{err-none, made-edited, made-unedited, none-told, some-none, some-told}
 use Rattle.plug_move.proofs.table_mapper.TableMapper.advance.Goals as goal
 
 pub returns-in_default-clause-mapped : goal.returns-in_default-clause-mapped
@@ -33,3 +33,10 @@ returns-clause-stands c = λ pairs met h.
       cats_read = c.in_ok-tables.ensures.cats met h.cats_read;
       edits = c.in_ok-new.ensures.stands is_edited met h.edits told.edited told.completes;
     }
+
+pub returns-in_err-tables-clause-quiet : goal.returns-in_err-tables-clause-quiet
+returns-in_err-tables-clause-quiet c = λ pairs met h unread. absurd (err-none _ _ (c.in_err-tables.ensures.quiet met h.in_force unread))
+
+pub returns-in_err-new-clause-quiet : goal.returns-in_err-new-clause-quiet
+returns-in_err-new-clause-quiet c = λ pairs met h unread.
+    absurd (some-none c.in_ok-tables.tables c.in-Some.tables c.in-Some.is (c.in_ok-tables.ensures.quiet met h.in_force unread))

@@ -142,7 +142,14 @@ pub step-requires-in-Tables : goal.step-requires-in-Tables
 step-requires-in-Tables c = rw c.in-Tables.is at c.requires
 
 pub returns-in-Tables : goal.returns-in-Tables
-returns-in-Tables c = rw c.in-Tables.is c.step-in-Tables.ensures
+returns-in-Tables c = rw c.in-Tables.is (record {
+  tells = c.step-in-Tables.ensures.tells;
+  meets = c.step-in-Tables.ensures.meets;
+  same_rule = c.step-in-Tables.ensures.same_rule;
+  room = c.step-in-Tables.ensures.room;
+  same_preallocated = refl;
+  same_silent = refl;
+})
 
 pub step-requires-in-Compact : goal.step-requires-in-Compact
 step-requires-in-Compact c = rw c.in-Compact.is at c.requires
