@@ -35,6 +35,8 @@ PLUGINS = {
     "svremove": ["svremove {service}", "svremove {service} --stuffing"],
     "compact": ["compact --window {few}", "compact --window {many} --stuffing", "compact --window {few} --only-label 3"],
     "rmorphan": ["rmorphan --window {few}", "rmorphan --window {many} --stuffing", "rmorphan --window {few} --only-label 3"],
+    "restuff": ["restuff --from 1500000 --to 1400000", "restuff --from 13536000 --to 13000000 --window {many}",
+                "restuff --from 2600000 --to 2600000 --window {few} --only-label 3", "restuff --from 3000 --to 1000 --window {few}"],
     "analyze": ["analyze", "analyze --only-label 3"],
     "info": ["info", "info --only-label 3"],
     "tables": ["tables", "tables --pid {source} --tid 0-2"],

@@ -12,6 +12,7 @@ use plug_inject::InjectConf;
 use plug_move::RemapConf;
 use plug_pass::{FilterConf, PatternConf, SkipConf, SliceConf};
 use plug_pcr::PcrverifyConf;
+use plug_restuff::RestuffConf;
 use plug_service::{SvremoveConf, ZapConf};
 use plug_tables::TablesConf;
 use plug_times::TimestampsConf;
@@ -47,6 +48,7 @@ pub enum PluginConf {
     Rmorphan(RmorphanConf),
     Pcrverify(PcrverifyConf),
     Timestamps(TimestampsConf),
+    Restuff(RestuffConf),
 }
 
 /// A kind of plugin.
@@ -75,10 +77,11 @@ pub enum PluginKind {
     Rmorphan,
     Pcrverify,
     Timestamps,
+    Restuff,
 }
 
 /// All kinds, in the order in which help names them.
-pub(crate) static KINDS: [PluginKind; 23] = [
+pub(crate) static KINDS: [PluginKind; 24] = [
     PluginKind::Filter,
     PluginKind::Skip,
     PluginKind::Slice,
@@ -102,6 +105,7 @@ pub(crate) static KINDS: [PluginKind; 23] = [
     PluginKind::Rmorphan,
     PluginKind::Pcrverify,
     PluginKind::Timestamps,
+    PluginKind::Restuff,
 ];
 
 // What the settings of a kind have of this name.
@@ -131,6 +135,7 @@ macro_rules! of_kind {
             PluginKind::Rmorphan => <RmorphanConf as PluginSettings>::$name($($given),*),
             PluginKind::Pcrverify => <PcrverifyConf as PluginSettings>::$name($($given),*),
             PluginKind::Timestamps => <TimestampsConf as PluginSettings>::$name($($given),*),
+            PluginKind::Restuff => <RestuffConf as PluginSettings>::$name($($given),*),
         }
     };
 }
@@ -162,6 +167,7 @@ macro_rules! read_kind {
             PluginKind::Rmorphan => <RmorphanConf as PluginSettings>::read($alloc, $found).map(PluginConf::Rmorphan),
             PluginKind::Pcrverify => <PcrverifyConf as PluginSettings>::read($alloc, $found).map(PluginConf::Pcrverify),
             PluginKind::Timestamps => <TimestampsConf as PluginSettings>::read($alloc, $found).map(PluginConf::Timestamps),
+            PluginKind::Restuff => <RestuffConf as PluginSettings>::read($alloc, $found).map(PluginConf::Restuff),
         }
     };
 }
@@ -193,6 +199,7 @@ macro_rules! each_conf {
             PluginConf::Rmorphan($conf) => $does,
             PluginConf::Pcrverify($conf) => $does,
             PluginConf::Timestamps($conf) => $does,
+            PluginConf::Restuff($conf) => $does,
         }
     };
 }
@@ -259,6 +266,7 @@ impl PluginConf {
             PluginConf::Rmorphan(_) => PluginKind::Rmorphan,
             PluginConf::Pcrverify(_) => PluginKind::Pcrverify,
             PluginConf::Timestamps(_) => PluginKind::Timestamps,
+            PluginConf::Restuff(_) => PluginKind::Restuff,
         }
     }
 

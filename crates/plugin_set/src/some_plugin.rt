@@ -15,6 +15,7 @@ use plug_inject::{Inject, new_inject};
 use plug_move::{Remap, new_remap};
 use plug_pass::{Filter, Pattern, Skip, Slice, new_filter, new_pattern, new_skip, new_slice};
 use plug_pcr::Pcrverify;
+use plug_restuff::{Restuff, new_restuff};
 use plug_service::{Svremove, Zap, new_svremove, new_zap};
 use plug_tables::Tables;
 use plug_times::Timestamps;
@@ -51,6 +52,7 @@ pub(crate) enum SomePlugin {
     Rmorphan(Rmorphan),
     Pcrverify(Pcrverify),
     Timestamps(Timestamps),
+    Restuff(Restuff),
 }
 
 // The same expression for the plugin of each variant.
@@ -80,6 +82,7 @@ macro_rules! each_plugin {
             SomePlugin::Rmorphan($plugin) => $does,
             SomePlugin::Pcrverify($plugin) => $does,
             SomePlugin::Timestamps($plugin) => $does,
+            SomePlugin::Restuff($plugin) => $does,
         }
     };
 }
@@ -121,6 +124,7 @@ macro_rules! made_of {
             PluginConf::Rmorphan(conf) => made!(new_rmorphan($alloc,&conf.window), SomePlugin::Rmorphan),
             PluginConf::Pcrverify(conf) => made!(Pcrverify::new($alloc,conf,$buffer), SomePlugin::Pcrverify),
             PluginConf::Timestamps(conf) => made!(Timestamps::new($alloc,conf,$buffer), SomePlugin::Timestamps),
+            PluginConf::Restuff(conf) => made!(new_restuff($alloc,conf,$buffer), SomePlugin::Restuff),
         }
     };
 }
@@ -149,7 +153,7 @@ impl SomePlugin {
 
 impl Plugin for SomePlugin {
     ghost use Rattle.std.specs.Prelude.{refl};
-    ghost use Rattle.plugin_set.specs.declared.some_plugin.SomePlugin.TheVariants.{Filter as MadeFilter, Skip as MadeSkip, Slice as MadeSlice, Pattern as MadePattern, Until as MadeUntil, Count as MadeCount, Continuity as MadeContinuity, Remap as MadeRemap, Inject as MadeInject, Pat as MadePat, Cat as MadeCat, Pmt as MadePmt, Sdt as MadeSdt, Nit as MadeNit, Zap as MadeZap, Svremove as MadeSvremove, Analyze as MadeAnalyze, Info as MadeInfo, Tables as MadeTables, Compact as MadeCompact, Rmorphan as MadeRmorphan, Pcrverify as MadePcrverify, Timestamps as MadeTimestamps};
+    ghost use Rattle.plugin_set.specs.declared.some_plugin.SomePlugin.TheVariants.{Filter as MadeFilter, Skip as MadeSkip, Slice as MadeSlice, Pattern as MadePattern, Until as MadeUntil, Count as MadeCount, Continuity as MadeContinuity, Remap as MadeRemap, Inject as MadeInject, Pat as MadePat, Cat as MadeCat, Pmt as MadePmt, Sdt as MadeSdt, Nit as MadeNit, Zap as MadeZap, Svremove as MadeSvremove, Analyze as MadeAnalyze, Info as MadeInfo, Tables as MadeTables, Compact as MadeCompact, Rmorphan as MadeRmorphan, Pcrverify as MadePcrverify, Timestamps as MadeTimestamps, Restuff as MadeRestuff};
 
     ghost rule = { elim [
       | MadeFilter p ↦ ⟦<Filter as Plugin>⟧.rule p
@@ -175,6 +179,7 @@ impl Plugin for SomePlugin {
       | MadeRmorphan p ↦ ⟦<Rmorphan as Plugin>⟧.rule p
       | MadePcrverify p ↦ ⟦<Pcrverify as Plugin>⟧.rule p
       | MadeTimestamps p ↦ ⟦<Timestamps as Plugin>⟧.rule p
+      | MadeRestuff p ↦ ⟦<Restuff as Plugin>⟧.rule p
     ] };
 
     ghost stands_for = { elim [
@@ -201,6 +206,7 @@ impl Plugin for SomePlugin {
       | MadeRmorphan p ↦ ⟦<Rmorphan as Plugin>⟧.stands_for p
       | MadePcrverify p ↦ ⟦<Pcrverify as Plugin>⟧.stands_for p
       | MadeTimestamps p ↦ ⟦<Timestamps as Plugin>⟧.stands_for p
+      | MadeRestuff p ↦ ⟦<Restuff as Plugin>⟧.stands_for p
     ] };
 
     ghost preallocated = { elim [
@@ -227,6 +233,7 @@ impl Plugin for SomePlugin {
       | MadeRmorphan p ↦ ⟦<Rmorphan as Plugin>⟧.preallocated p
       | MadePcrverify p ↦ ⟦<Pcrverify as Plugin>⟧.preallocated p
       | MadeTimestamps p ↦ ⟦<Timestamps as Plugin>⟧.preallocated p
+      | MadeRestuff p ↦ ⟦<Restuff as Plugin>⟧.preallocated p
     ] };
 
     ghost silent = { elim [
@@ -253,6 +260,7 @@ impl Plugin for SomePlugin {
       | MadeRmorphan p ↦ ⟦<Rmorphan as Plugin>⟧.silent p
       | MadePcrverify p ↦ ⟦<Pcrverify as Plugin>⟧.silent p
       | MadeTimestamps p ↦ ⟦<Timestamps as Plugin>⟧.silent p
+      | MadeRestuff p ↦ ⟦<Restuff as Plugin>⟧.silent p
     ] };
 
     fn step(&mut self, at: u64, packet: &mut Packet, labels: &mut Labels) -> Outcome {
@@ -307,5 +315,6 @@ impl Plugin for SomePlugin {
       | MadeRmorphan p ↦ λ history mark stands. refl
       | MadePcrverify p ↦ λ history mark stands. refl
       | MadeTimestamps p ↦ λ history mark stands. refl
+      | MadeRestuff p ↦ λ history mark stands. refl
     ] };
 }

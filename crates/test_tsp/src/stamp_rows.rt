@@ -19,7 +19,7 @@ pub(crate) fn rows() -> &'static [Row] {
     &STAMP_ROWS
 }
 
-static STAMP_ROWS: [Row; 5] = [
+static STAMP_ROWS: [Row; 8] = [
     Row {
         name: "steps of 40 ms, a unit, 100 ms, a unit more, and over a discontinuity",
         words: "-I file in -P timestamps --pts -O drop",
@@ -60,6 +60,31 @@ static STAMP_ROWS: [Row; 5] = [
         name: "clocks before the cut",
         words: "-I testgen 1 1000 -P timestamps -P until --packets 106 -O drop",
         input: Input::Pids(&[]),
+        plan: ORDINARY,
+    },
+    Row {
+        name: "clocks go with the packets that are moved",
+        words: "--add-input-stuffing 9/1 -I file in -P restuff --from 30000 --to 20000 -P timestamps --csv --pcr -O drop",
+        input: Input::Clocks(&[
+            clocked!(256, 0x10, 0),
+            clocked!(256, 0x10, 13536000),
+            clocked!(256, 0x10, 27072000),
+        ]),
+        plan: ORDINARY,
+    },
+    Row {
+        name: "a clock is moved back, rounded to less",
+        words: "--add-input-stuffing 2/1 -I file in -P restuff --from 3001 --to 2000 -P timestamps --csv --pcr -O drop",
+        input: Input::Clocks(&[clocked!(256, 0x10, 0), clocked!(256, 0x10, 0)]),
+        plan: ORDINARY,
+    },
+    Row {
+        name: "a clock is moved over its period",
+        words: "--add-stop-stuffing 12 -I file in -P restuff --from 4000 --to 1000 -P timestamps --csv --pcr -O drop",
+        input: Input::Clocks(&[
+            clocked!(256, 0x10, 2576980377599),
+            clocked!(256, 0x10, 2576980377599),
+        ]),
         plan: ORDINARY,
     },
 ];

@@ -1,4 +1,4 @@
-//! Rows on the plugins that see packets ahead in a window.
+//! Rows on the plugins that give packets later than they came.
 use crate::carried::Carried;
 use crate::inputs::Input;
 use crate::row::Row;
@@ -12,7 +12,7 @@ pub(crate) fn rows() -> &'static [Row] {
     &WINDOW_ROWS
 }
 
-static WINDOW_ROWS: [Row; 6] = [
+static WINDOW_ROWS: [Row; 12] = [
     Row {
         name: "rmorphan keeps what a table in its window names",
         words: "--add-stop-stuffing 3 -I file in -P rmorphan --window 3 -O file out",
@@ -49,6 +49,42 @@ static WINDOW_ROWS: [Row; 6] = [
         input: Input::Pids(&[300, 16, 301, 302]),
         plan: ORDINARY,
     },
+    Row {
+        name: "restuff gives what waits in every second cell",
+        words: "-I file in -P restuff --from 2000 --to 1000 -O file out",
+        input: Input::Pids(&[300, 300, 8191, 300, 8191, 8191, 300, 8191, 8191, 8191]),
+        plan: ORDINARY,
+    },
+    Row {
+        name: "restuff refuses a packet that cannot wait",
+        words: "-I file in -P restuff --from 4000 --to 1000 --window 2 -O file out",
+        input: Input::Pids(&[300, 300, 300, 8191]),
+        plan: ORDINARY,
+    },
+    Row {
+        name: "as many wait as may, and stay inside",
+        words: "-I file in -P restuff --from 4000 --to 1000 --window 3 -O file out",
+        input: Input::Pids(&[300, 300, 300, 8191]),
+        plan: ORDINARY,
+    },
+    Row {
+        name: "null packets at the end bring them out",
+        words: "--add-stop-stuffing 8 -I file in -P restuff --from 4000 --to 1000 --window 3 -O file out",
+        input: Input::Pids(&[300, 300, 300, 8191]),
+        plan: ORDINARY,
+    },
+    Row {
+        name: "packets that were dropped before have no place",
+        words: "-I file in -P filter --pid 300 -P restuff --from 2000 --to 1000 -P count --all -O file out",
+        input: Input::Pids(&[300, 16, 300, 16, 300, 300, 16, 16]),
+        plan: ORDINARY,
+    },
+    Row {
+        name: "a packet takes its labels along, and a null packet that is put in has none",
+        words: "-I file in -P filter --pid 256,8191 --set-label 3 -P restuff --from 1500 --to 1000 -P filter --label 3 -O file out",
+        input: Input::Pids(&[257, 256, 8191, 8191, 8191, 256, 8191]),
+        plan: ORDINARY,
+    },
 ];
 
 /// Words of these plugins that are no command line.
@@ -56,7 +92,7 @@ pub(crate) fn of_words() -> &'static [Row] {
     &WINDOW_WORD_ROWS
 }
 
-static WINDOW_WORD_ROWS: [Row; 3] = [
+static WINDOW_WORD_ROWS: [Row; 6] = [
     Row {
         name: "compact without a window",
         words: "-I null 1 -P compact -O drop",
@@ -72,6 +108,24 @@ static WINDOW_WORD_ROWS: [Row; 3] = [
     Row {
         name: "a window above the most packets",
         words: "-I null 1 -P compact --window 100001 -O drop",
+        input: Input::Pids(&[]),
+        plan: ORDINARY,
+    },
+    Row {
+        name: "a rate above the one before",
+        words: "-I null 1 -P restuff --from 1000000 --to 1000001 -O drop",
+        input: Input::Pids(&[]),
+        plan: ORDINARY,
+    },
+    Row {
+        name: "a rate alone",
+        words: "-I null 1 -P restuff --from 1000 -O drop",
+        input: Input::Pids(&[]),
+        plan: ORDINARY,
+    },
+    Row {
+        name: "a rate below the least",
+        words: "-I null 1 -P restuff --from 1000 --to 999 -O drop",
         input: Input::Pids(&[]),
         plan: ORDINARY,
     },

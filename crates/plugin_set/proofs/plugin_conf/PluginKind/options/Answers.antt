@@ -69,3 +69,6 @@ returns-in-Pcrverify c = rw c.in-Pcrverify.is c.options-in-Pcrverify.ensures
 
 pub returns-in-Timestamps : goal.returns-in-Timestamps
 returns-in-Timestamps c = rw c.in-Timestamps.is c.options-in-Timestamps.ensures
+
+pub returns-in-Restuff : goal.returns-in-Restuff
+returns-in-Restuff c = rw c.in-Restuff.is c.options-in-Restuff.ensures

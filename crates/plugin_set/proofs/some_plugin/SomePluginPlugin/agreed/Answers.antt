@@ -138,3 +138,9 @@ agreed-requires-in-Timestamps c = rw c.in-Timestamps.is at c.requires
 
 pub returns-in-Timestamps : goal.returns-in-Timestamps
 returns-in-Timestamps c = rw c.in-Timestamps.is c.agreed-in-Timestamps.ensures
+
+pub agreed-requires-in-Restuff : goal.agreed-requires-in-Restuff
+agreed-requires-in-Restuff c = rw c.in-Restuff.is at c.requires
+
+pub returns-in-Restuff : goal.returns-in-Restuff
+returns-in-Restuff c = rw c.in-Restuff.is c.agreed-in-Restuff.ensures

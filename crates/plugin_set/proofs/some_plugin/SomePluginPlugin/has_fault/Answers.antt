@@ -138,3 +138,9 @@ has_fault-requires-in-Timestamps c = rw c.in-Timestamps.is at c.requires
 
 pub returns-in-Timestamps : goal.returns-in-Timestamps
 returns-in-Timestamps c = rw c.in-Timestamps.is c.has_fault-in-Timestamps.ensures
+
+pub has_fault-requires-in-Restuff : goal.has_fault-requires-in-Restuff
+has_fault-requires-in-Restuff c = rw c.in-Restuff.is at c.requires
+
+pub returns-in-Restuff : goal.returns-in-Restuff
+returns-in-Restuff c = rw c.in-Restuff.is c.has_fault-in-Restuff.ensures

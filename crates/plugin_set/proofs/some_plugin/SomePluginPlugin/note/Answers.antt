@@ -182,3 +182,9 @@ returns-in-Timestamps c = rw c.in-Timestamps.is (record {
   same_silent = refl;
   silent = λ silent. absurd (both_ways false refl silent);
 })
+
+pub note-requires-in-Restuff : goal.note-requires-in-Restuff
+note-requires-in-Restuff c = rw c.in-Restuff.is at c.requires
+
+pub returns-in-Restuff : goal.returns-in-Restuff
+returns-in-Restuff c = rw c.in-Restuff.is c.note-in-Restuff.ensures

@@ -149,3 +149,9 @@ pass_over-requires-in-Timestamps c = rw c.in-Timestamps.is at c.requires
 
 pub returns-in-Timestamps : goal.returns-in-Timestamps
 returns-in-Timestamps c = rw c.in-Timestamps.is c.pass_over-in-Timestamps.ensures
+
+pub pass_over-requires-in-Restuff : goal.pass_over-requires-in-Restuff
+pass_over-requires-in-Restuff c = rw c.in-Restuff.is at c.requires
+
+pub returns-in-Restuff : goal.returns-in-Restuff
+returns-in-Restuff c = rw c.in-Restuff.is c.pass_over-in-Restuff.ensures

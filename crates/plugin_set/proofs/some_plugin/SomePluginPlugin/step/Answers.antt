@@ -188,3 +188,9 @@ returns-in-Timestamps c = rw c.in-Timestamps.is (record {
   room = c.step-in-Timestamps.ensures.room;
   same_silent = refl;
 })
+
+pub step-requires-in-Restuff : goal.step-requires-in-Restuff
+step-requires-in-Restuff c = rw c.in-Restuff.is at c.requires
+
+pub returns-in-Restuff : goal.returns-in-Restuff
+returns-in-Restuff c = rw c.in-Restuff.is c.step-in-Restuff.ensures

@@ -138,3 +138,9 @@ steps-requires-in-Timestamps c = rw c.in-Timestamps.is at c.requires
 
 pub returns-in-Timestamps : goal.returns-in-Timestamps
 returns-in-Timestamps c = rw c.in-Timestamps.is c.steps-in-Timestamps.ensures
+
+pub steps-requires-in-Restuff : goal.steps-requires-in-Restuff
+steps-requires-in-Restuff c = rw c.in-Restuff.is at c.requires
+
+pub returns-in-Restuff : goal.returns-in-Restuff
+returns-in-Restuff c = rw c.in-Restuff.is c.steps-in-Restuff.ensures

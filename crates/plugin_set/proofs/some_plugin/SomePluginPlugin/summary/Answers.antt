@@ -138,3 +138,9 @@ summary-requires-in-Timestamps c = rw c.in-Timestamps.is at c.requires
 
 pub returns-in-Timestamps : goal.returns-in-Timestamps
 returns-in-Timestamps c = rw c.in-Timestamps.is c.summary-in-Timestamps.ensures
+
+pub summary-requires-in-Restuff : goal.summary-requires-in-Restuff
+summary-requires-in-Restuff c = rw c.in-Restuff.is at c.requires
+
+pub returns-in-Restuff : goal.returns-in-Restuff
+returns-in-Restuff c = rw c.in-Restuff.is c.summary-in-Restuff.ensures
