@@ -23,6 +23,7 @@ PLUGINS = {
     "pcrverify": ["pcrverify --bitrate 13536000", "pcrverify --bitrate {many} --jitter-max {few}",
                   "pcrverify --bitrate 2600000 --jitter-max 0 --pid {pid}"],
     "timestamps": ["timestamps", "timestamps --pid {pid} --pcr", "timestamps --csv --pts --dts", "timestamps --only-label 3"],
+    "rate": ["rate", "rate --interval 100 --pid {pid}", "rate --interval 250 --min {many} --max 20000000", "rate --pcr-pid {pid} --only-label 3"],
     "remap": ["remap --no-psi --unchecked {source}=33", "remap --no-psi 7777=7778", "remap --unchecked {source}=33",
               "remap {source}=257"],
     "inject": ["inject {table} --pid {source} --replace", "inject {table} --pid 4000 --inter-packet {few}"],

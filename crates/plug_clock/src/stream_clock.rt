@@ -161,6 +161,22 @@ impl StreamClock {
         product(positions, self.units) / u128::from(self.positions)
     }
 
+    /// The time since the first PCR that was read, in units of the 27 MHz clock, 0 to 2^62.
+    #[inline]
+    pub fn time(&self) -> u64
+        ensures { result ≡ self.now.time }
+    {
+        self.time
+    }
+
+    /// The last PCR that was read; `None` before the first one.
+    #[inline]
+    pub fn last(&self) -> Option<LastClock>
+        ensures { result ≡ self.now.last }
+    {
+        self.last
+    }
+
     /// The time in whole milliseconds.
     pub fn milliseconds(&self) -> u64
         ensures { result ≡ milliseconds_of self.now.time }

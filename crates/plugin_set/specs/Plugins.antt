@@ -28,9 +28,10 @@ use Rattle.plug_window.specs.CompactEntry.{compact_entry}
 use Rattle.plug_window.specs.RmorphanEntry.{rmorphan_entry}
 use Rattle.plug_pcr.specs.PcrverifyEntry.{pcrverify_entry}
 use Rattle.plug_times.specs.TimestampsEntry.{timestamps_entry}
+use Rattle.plug_rate.specs.RateEntry.{rate_entry}
 use Rattle.plug_restuff.specs.RestuffEntry.{restuff_entry}
 use Rattle.plugin_set.specs.declared.plugin_conf.PluginConf.{PluginConf}
-use Rattle.plugin_set.specs.declared.plugin_conf.PluginConf.TheVariants.{Filter, Skip, Slice, Pattern, Until, Count, Continuity, Remap, Inject, Pat, Cat, Pmt, Sdt, Nit, Zap, Svremove, Analyze, Info, Tables, Compact, Rmorphan, Pcrverify, Timestamps, Restuff}
+use Rattle.plugin_set.specs.declared.plugin_conf.PluginConf.TheVariants.{Filter, Skip, Slice, Pattern, Until, Count, Continuity, Remap, Inject, Pat, Cat, Pmt, Sdt, Nit, Zap, Svremove, Analyze, Info, Tables, Compact, Rmorphan, Pcrverify, Timestamps, Rate, Restuff}
 use Rattle.plugin_set.specs.declared.plugin_conf.PluginKind.{PluginKind}
 use Rattle.plugin_set.specs.declared.plugin_conf.PluginKind.TheVariants as kind
 
@@ -59,6 +60,7 @@ kinds = kind.Filter
     ∷ kind.Rmorphan
     ∷ kind.Pcrverify
     ∷ kind.Timestamps
+    ∷ kind.Rate
     ∷ kind.Restuff
     ∷ []
 
@@ -87,6 +89,7 @@ kind_entry kind.Compact = of_kind Compact compact_entry
 kind_entry kind.Rmorphan = of_kind Rmorphan rmorphan_entry
 kind_entry kind.Pcrverify = of_kind Pcrverify pcrverify_entry
 kind_entry kind.Timestamps = of_kind Timestamps timestamps_entry
+kind_entry kind.Rate = of_kind Rate rate_entry
 kind_entry kind.Restuff = of_kind Restuff restuff_entry
 
 -- what is said of settings
@@ -114,6 +117,7 @@ entry_of (Compact conf) = of_conf kind.Compact compact_entry conf
 entry_of (Rmorphan conf) = of_conf kind.Rmorphan rmorphan_entry conf
 entry_of (Pcrverify conf) = of_conf kind.Pcrverify pcrverify_entry conf
 entry_of (Timestamps conf) = of_conf kind.Timestamps timestamps_entry conf
+entry_of (Rate conf) = of_conf kind.Rate rate_entry conf
 entry_of (Restuff conf) = of_conf kind.Restuff restuff_entry conf
 
 -- the name of a kind on the command line and in the reports

@@ -12,6 +12,7 @@ use plug_inject::InjectConf;
 use plug_move::RemapConf;
 use plug_pass::{FilterConf, PatternConf, SkipConf, SliceConf};
 use plug_pcr::PcrverifyConf;
+use plug_rate::RateConf;
 use plug_restuff::RestuffConf;
 use plug_service::{SvremoveConf, ZapConf};
 use plug_tables::TablesConf;
@@ -48,6 +49,7 @@ pub enum PluginConf {
     Rmorphan(RmorphanConf),
     Pcrverify(PcrverifyConf),
     Timestamps(TimestampsConf),
+    Rate(RateConf),
     Restuff(RestuffConf),
 }
 
@@ -77,11 +79,12 @@ pub enum PluginKind {
     Rmorphan,
     Pcrverify,
     Timestamps,
+    Rate,
     Restuff,
 }
 
 /// All kinds, in the order in which help names them.
-pub(crate) static KINDS: [PluginKind; 24] = [
+pub(crate) static KINDS: [PluginKind; 25] = [
     PluginKind::Filter,
     PluginKind::Skip,
     PluginKind::Slice,
@@ -105,6 +108,7 @@ pub(crate) static KINDS: [PluginKind; 24] = [
     PluginKind::Rmorphan,
     PluginKind::Pcrverify,
     PluginKind::Timestamps,
+    PluginKind::Rate,
     PluginKind::Restuff,
 ];
 
@@ -135,6 +139,7 @@ macro_rules! of_kind {
             PluginKind::Rmorphan => <RmorphanConf as PluginSettings>::$name($($given),*),
             PluginKind::Pcrverify => <PcrverifyConf as PluginSettings>::$name($($given),*),
             PluginKind::Timestamps => <TimestampsConf as PluginSettings>::$name($($given),*),
+            PluginKind::Rate => <RateConf as PluginSettings>::$name($($given),*),
             PluginKind::Restuff => <RestuffConf as PluginSettings>::$name($($given),*),
         }
     };
@@ -167,6 +172,7 @@ macro_rules! read_kind {
             PluginKind::Rmorphan => <RmorphanConf as PluginSettings>::read($alloc, $found).map(PluginConf::Rmorphan),
             PluginKind::Pcrverify => <PcrverifyConf as PluginSettings>::read($alloc, $found).map(PluginConf::Pcrverify),
             PluginKind::Timestamps => <TimestampsConf as PluginSettings>::read($alloc, $found).map(PluginConf::Timestamps),
+            PluginKind::Rate => <RateConf as PluginSettings>::read($alloc, $found).map(PluginConf::Rate),
             PluginKind::Restuff => <RestuffConf as PluginSettings>::read($alloc, $found).map(PluginConf::Restuff),
         }
     };
@@ -199,6 +205,7 @@ macro_rules! each_conf {
             PluginConf::Rmorphan($conf) => $does,
             PluginConf::Pcrverify($conf) => $does,
             PluginConf::Timestamps($conf) => $does,
+            PluginConf::Rate($conf) => $does,
             PluginConf::Restuff($conf) => $does,
         }
     };
@@ -266,6 +273,7 @@ impl PluginConf {
             PluginConf::Rmorphan(_) => PluginKind::Rmorphan,
             PluginConf::Pcrverify(_) => PluginKind::Pcrverify,
             PluginConf::Timestamps(_) => PluginKind::Timestamps,
+            PluginConf::Rate(_) => PluginKind::Rate,
             PluginConf::Restuff(_) => PluginKind::Restuff,
         }
     }

@@ -5,16 +5,14 @@ ghost use Rattle.plugin_set.specs.Plugins.{is_silent, rule_of, preallocated_of};
 
 use crate::plugin_conf::PluginConf;
 use plug_analyze::Analyze;
-use plug_edit::{
-    EditCat, EditNit, EditPat, EditPmt, EditSdt, new_edit_cat, new_edit_nit, new_edit_pat,
-    new_edit_pmt, new_edit_sdt,
-};
+use plug_edit::{EditCat, EditNit, EditPat, EditPmt, EditSdt, new_edit_cat, new_edit_nit, new_edit_pat, new_edit_pmt, new_edit_sdt};
 use plug_end::Until;
 use plug_info::Info;
 use plug_inject::{Inject, new_inject};
 use plug_move::{Remap, new_remap};
 use plug_pass::{Filter, Pattern, Skip, Slice, new_filter, new_pattern, new_skip, new_slice};
 use plug_pcr::Pcrverify;
+use plug_rate::Rate;
 use plug_restuff::{Restuff, new_restuff};
 use plug_service::{Svremove, Zap, new_svremove, new_zap};
 use plug_tables::Tables;
@@ -52,6 +50,7 @@ pub(crate) enum SomePlugin {
     Rmorphan(Rmorphan),
     Pcrverify(Pcrverify),
     Timestamps(Timestamps),
+    Rate(Rate),
     Restuff(Restuff),
 }
 
@@ -82,6 +81,7 @@ macro_rules! each_plugin {
             SomePlugin::Rmorphan($plugin) => $does,
             SomePlugin::Pcrverify($plugin) => $does,
             SomePlugin::Timestamps($plugin) => $does,
+            SomePlugin::Rate($plugin) => $does,
             SomePlugin::Restuff($plugin) => $does,
         }
     };
@@ -124,6 +124,7 @@ macro_rules! made_of {
             PluginConf::Rmorphan(conf) => made!(new_rmorphan($alloc,&conf.window), SomePlugin::Rmorphan),
             PluginConf::Pcrverify(conf) => made!(Pcrverify::new($alloc,conf,$buffer), SomePlugin::Pcrverify),
             PluginConf::Timestamps(conf) => made!(Timestamps::new($alloc,conf,$buffer), SomePlugin::Timestamps),
+            PluginConf::Rate(conf) => made!(Rate::new($alloc,conf,$buffer), SomePlugin::Rate),
             PluginConf::Restuff(conf) => made!(new_restuff($alloc,conf,$buffer), SomePlugin::Restuff),
         }
     };
@@ -153,7 +154,7 @@ impl SomePlugin {
 
 impl Plugin for SomePlugin {
     ghost use Rattle.std.specs.Prelude.{refl};
-    ghost use Rattle.plugin_set.specs.declared.some_plugin.SomePlugin.TheVariants.{Filter as MadeFilter, Skip as MadeSkip, Slice as MadeSlice, Pattern as MadePattern, Until as MadeUntil, Count as MadeCount, Continuity as MadeContinuity, Remap as MadeRemap, Inject as MadeInject, Pat as MadePat, Cat as MadeCat, Pmt as MadePmt, Sdt as MadeSdt, Nit as MadeNit, Zap as MadeZap, Svremove as MadeSvremove, Analyze as MadeAnalyze, Info as MadeInfo, Tables as MadeTables, Compact as MadeCompact, Rmorphan as MadeRmorphan, Pcrverify as MadePcrverify, Timestamps as MadeTimestamps, Restuff as MadeRestuff};
+    ghost use Rattle.plugin_set.specs.declared.some_plugin.SomePlugin.TheVariants.{Filter as MadeFilter, Skip as MadeSkip, Slice as MadeSlice, Pattern as MadePattern, Until as MadeUntil, Count as MadeCount, Continuity as MadeContinuity, Remap as MadeRemap, Inject as MadeInject, Pat as MadePat, Cat as MadeCat, Pmt as MadePmt, Sdt as MadeSdt, Nit as MadeNit, Zap as MadeZap, Svremove as MadeSvremove, Analyze as MadeAnalyze, Info as MadeInfo, Tables as MadeTables, Compact as MadeCompact, Rmorphan as MadeRmorphan, Pcrverify as MadePcrverify, Timestamps as MadeTimestamps, Rate as MadeRate, Restuff as MadeRestuff};
 
     ghost rule = { elim [
       | MadeFilter p ↦ ⟦<Filter as Plugin>⟧.rule p
@@ -179,6 +180,7 @@ impl Plugin for SomePlugin {
       | MadeRmorphan p ↦ ⟦<Rmorphan as Plugin>⟧.rule p
       | MadePcrverify p ↦ ⟦<Pcrverify as Plugin>⟧.rule p
       | MadeTimestamps p ↦ ⟦<Timestamps as Plugin>⟧.rule p
+      | MadeRate p ↦ ⟦<Rate as Plugin>⟧.rule p
       | MadeRestuff p ↦ ⟦<Restuff as Plugin>⟧.rule p
     ] };
 
@@ -206,6 +208,7 @@ impl Plugin for SomePlugin {
       | MadeRmorphan p ↦ ⟦<Rmorphan as Plugin>⟧.stands_for p
       | MadePcrverify p ↦ ⟦<Pcrverify as Plugin>⟧.stands_for p
       | MadeTimestamps p ↦ ⟦<Timestamps as Plugin>⟧.stands_for p
+      | MadeRate p ↦ ⟦<Rate as Plugin>⟧.stands_for p
       | MadeRestuff p ↦ ⟦<Restuff as Plugin>⟧.stands_for p
     ] };
 
@@ -233,6 +236,7 @@ impl Plugin for SomePlugin {
       | MadeRmorphan p ↦ ⟦<Rmorphan as Plugin>⟧.preallocated p
       | MadePcrverify p ↦ ⟦<Pcrverify as Plugin>⟧.preallocated p
       | MadeTimestamps p ↦ ⟦<Timestamps as Plugin>⟧.preallocated p
+      | MadeRate p ↦ ⟦<Rate as Plugin>⟧.preallocated p
       | MadeRestuff p ↦ ⟦<Restuff as Plugin>⟧.preallocated p
     ] };
 
@@ -260,6 +264,7 @@ impl Plugin for SomePlugin {
       | MadeRmorphan p ↦ ⟦<Rmorphan as Plugin>⟧.silent p
       | MadePcrverify p ↦ ⟦<Pcrverify as Plugin>⟧.silent p
       | MadeTimestamps p ↦ ⟦<Timestamps as Plugin>⟧.silent p
+      | MadeRate p ↦ ⟦<Rate as Plugin>⟧.silent p
       | MadeRestuff p ↦ ⟦<Restuff as Plugin>⟧.silent p
     ] };
 
@@ -315,6 +320,7 @@ impl Plugin for SomePlugin {
       | MadeRmorphan p ↦ λ history mark stands. refl
       | MadePcrverify p ↦ λ history mark stands. refl
       | MadeTimestamps p ↦ λ history mark stands. refl
+      | MadeRate p ↦ λ history mark stands. refl
       | MadeRestuff p ↦ λ history mark stands. refl
     ] };
 }

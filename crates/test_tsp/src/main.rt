@@ -22,6 +22,7 @@ mod form_rows;
 mod generated_rows;
 mod info_rows;
 mod inputs;
+mod interval_rows;
 mod invalid_packets;
 mod keeping_gate;
 mod listed_calls;
@@ -97,7 +98,7 @@ fn write_tables<R: Threads + Wait + Sync + AllocGlobal>(
 }
 
 /// All tables, in the order in which they are printed.
-fn tables() -> [&'static [Row]; 38] {
+fn tables() -> [&'static [Row]; 40] {
     [
         end_rows::rows(),
         plugin_rows::rows(),
@@ -111,6 +112,7 @@ fn tables() -> [&'static [Row]; 38] {
         clock_rows::rows(),
         time_rows::rows(),
         stamp_rows::rows(),
+        interval_rows::rows(),
         info_rows::rows(),
         rate_rows::rows(),
         name_rows::rows(),
@@ -136,6 +138,7 @@ fn tables() -> [&'static [Row]; 38] {
         clock_rows::of_words(),
         time_rows::of_words(),
         stamp_rows::of_words(),
+        interval_rows::of_words(),
         info_rows::of_words(),
     ]
 }

@@ -70,5 +70,8 @@ returns-in-Pcrverify c = rw c.in-Pcrverify.is c.options-in-Pcrverify.ensures
 pub returns-in-Timestamps : goal.returns-in-Timestamps
 returns-in-Timestamps c = rw c.in-Timestamps.is c.options-in-Timestamps.ensures
 
+pub returns-in-Rate : goal.returns-in-Rate
+returns-in-Rate c = rw c.in-Rate.is c.options-in-Rate.ensures
+
 pub returns-in-Restuff : goal.returns-in-Restuff
 returns-in-Restuff c = rw c.in-Restuff.is c.options-in-Restuff.ensures

@@ -22,6 +22,7 @@ use Rattle.plug_window.specs.CompactEntry.{compact_entry}
 use Rattle.plug_window.specs.RmorphanEntry.{rmorphan_entry}
 use Rattle.plug_pcr.specs.PcrverifyEntry.{pcrverify_entry}
 use Rattle.plug_times.specs.TimestampsEntry.{timestamps_entry}
+use Rattle.plug_rate.specs.RateEntry.{rate_entry}
 use Rattle.plug_restuff.specs.RestuffEntry.{restuff_entry}
 use Rattle.plugin_set.specs.Plugins.{IsValid}
 use Rattle.plugin_set.specs.declared.plugin_conf.PluginConf.TheVariants as conf
@@ -165,6 +166,12 @@ returns-in-Timestamps-clause-reads c = rw c.in-Timestamps.is (read_into conf.Tim
 
 pub returns-in-Timestamps-clause-valid : goal.returns-in-Timestamps-clause-valid
 returns-in-Timestamps-clause-valid c = made conf.Timestamps _ IsValid _ _ c.map-in-Timestamps.ensures.cases (λ _ p. p) c.read-in-Timestamps.ensures.valid
+
+pub returns-in-Rate-clause-reads : goal.returns-in-Rate-clause-reads
+returns-in-Rate-clause-reads c = rw c.in-Rate.is (read_into conf.Rate rate_entry.options c.args.found.now _ _ c.map-in-Rate.ensures.cases c.read-in-Rate.ensures.reads)
+
+pub returns-in-Rate-clause-valid : goal.returns-in-Rate-clause-valid
+returns-in-Rate-clause-valid c = made conf.Rate _ IsValid _ _ c.map-in-Rate.ensures.cases (λ _ p. p) c.read-in-Rate.ensures.valid
 
 pub returns-in-Restuff-clause-reads : goal.returns-in-Restuff-clause-reads
 returns-in-Restuff-clause-reads c = rw c.in-Restuff.is (read_into conf.Restuff restuff_entry.options c.args.found.now _ _ c.map-in-Restuff.ensures.cases c.read-in-Restuff.ensures.reads)

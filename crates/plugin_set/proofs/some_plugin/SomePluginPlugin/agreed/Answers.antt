@@ -139,6 +139,12 @@ agreed-requires-in-Timestamps c = rw c.in-Timestamps.is at c.requires
 pub returns-in-Timestamps : goal.returns-in-Timestamps
 returns-in-Timestamps c = rw c.in-Timestamps.is c.agreed-in-Timestamps.ensures
 
+pub agreed-requires-in-Rate : goal.agreed-requires-in-Rate
+agreed-requires-in-Rate c = rw c.in-Rate.is at c.requires
+
+pub returns-in-Rate : goal.returns-in-Rate
+returns-in-Rate c = rw c.in-Rate.is c.agreed-in-Rate.ensures
+
 pub agreed-requires-in-Restuff : goal.agreed-requires-in-Restuff
 agreed-requires-in-Restuff c = rw c.in-Restuff.is at c.requires
 

@@ -139,6 +139,12 @@ has_fault-requires-in-Timestamps c = rw c.in-Timestamps.is at c.requires
 pub returns-in-Timestamps : goal.returns-in-Timestamps
 returns-in-Timestamps c = rw c.in-Timestamps.is c.has_fault-in-Timestamps.ensures
 
+pub has_fault-requires-in-Rate : goal.has_fault-requires-in-Rate
+has_fault-requires-in-Rate c = rw c.in-Rate.is at c.requires
+
+pub returns-in-Rate : goal.returns-in-Rate
+returns-in-Rate c = rw c.in-Rate.is c.has_fault-in-Rate.ensures
+
 pub has_fault-requires-in-Restuff : goal.has_fault-requires-in-Restuff
 has_fault-requires-in-Restuff c = rw c.in-Restuff.is at c.requires
 

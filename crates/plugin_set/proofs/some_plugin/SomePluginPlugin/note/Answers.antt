@@ -183,6 +183,19 @@ returns-in-Timestamps c = rw c.in-Timestamps.is (record {
   silent = λ silent. absurd (both_ways false refl silent);
 })
 
+pub note-requires-in-Rate : goal.note-requires-in-Rate
+note-requires-in-Rate c = rw c.in-Rate.is at c.requires
+
+pub returns-in-Rate : goal.returns-in-Rate
+returns-in-Rate c = rw c.in-Rate.is (record {
+  gives = c.note-in-Rate.ensures.gives;
+  same_rule = c.note-in-Rate.ensures.same_rule;
+  same_preallocated = c.note-in-Rate.ensures.same_preallocated;
+  room = c.note-in-Rate.ensures.room;
+  same_silent = refl;
+  silent = λ silent. absurd (both_ways false refl silent);
+})
+
 pub note-requires-in-Restuff : goal.note-requires-in-Restuff
 note-requires-in-Restuff c = rw c.in-Restuff.is at c.requires
 

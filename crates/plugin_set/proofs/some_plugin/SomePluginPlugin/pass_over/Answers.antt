@@ -150,6 +150,12 @@ pass_over-requires-in-Timestamps c = rw c.in-Timestamps.is at c.requires
 pub returns-in-Timestamps : goal.returns-in-Timestamps
 returns-in-Timestamps c = rw c.in-Timestamps.is c.pass_over-in-Timestamps.ensures
 
+pub pass_over-requires-in-Rate : goal.pass_over-requires-in-Rate
+pass_over-requires-in-Rate c = rw c.in-Rate.is at c.requires
+
+pub returns-in-Rate : goal.returns-in-Rate
+returns-in-Rate c = rw c.in-Rate.is c.pass_over-in-Rate.ensures
+
 pub pass_over-requires-in-Restuff : goal.pass_over-requires-in-Restuff
 pass_over-requires-in-Restuff c = rw c.in-Restuff.is at c.requires
 

@@ -189,6 +189,19 @@ returns-in-Timestamps c = rw c.in-Timestamps.is (record {
   same_silent = refl;
 })
 
+pub step-requires-in-Rate : goal.step-requires-in-Rate
+step-requires-in-Rate c = rw c.in-Rate.is at c.requires
+
+pub returns-in-Rate : goal.returns-in-Rate
+returns-in-Rate c = rw c.in-Rate.is (record {
+  tells = c.step-in-Rate.ensures.tells;
+  meets = c.step-in-Rate.ensures.meets;
+  same_rule = c.step-in-Rate.ensures.same_rule;
+  same_preallocated = c.step-in-Rate.ensures.same_preallocated;
+  room = c.step-in-Rate.ensures.room;
+  same_silent = refl;
+})
+
 pub step-requires-in-Restuff : goal.step-requires-in-Restuff
 step-requires-in-Restuff c = rw c.in-Restuff.is at c.requires
 

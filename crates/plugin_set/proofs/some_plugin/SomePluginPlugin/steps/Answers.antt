@@ -139,6 +139,12 @@ steps-requires-in-Timestamps c = rw c.in-Timestamps.is at c.requires
 pub returns-in-Timestamps : goal.returns-in-Timestamps
 returns-in-Timestamps c = rw c.in-Timestamps.is c.steps-in-Timestamps.ensures
 
+pub steps-requires-in-Rate : goal.steps-requires-in-Rate
+steps-requires-in-Rate c = rw c.in-Rate.is at c.requires
+
+pub returns-in-Rate : goal.returns-in-Rate
+returns-in-Rate c = rw c.in-Rate.is c.steps-in-Rate.ensures
+
 pub steps-requires-in-Restuff : goal.steps-requires-in-Restuff
 steps-requires-in-Restuff c = rw c.in-Restuff.is at c.requires
 

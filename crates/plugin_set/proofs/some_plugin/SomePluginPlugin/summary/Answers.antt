@@ -139,6 +139,12 @@ summary-requires-in-Timestamps c = rw c.in-Timestamps.is at c.requires
 pub returns-in-Timestamps : goal.returns-in-Timestamps
 returns-in-Timestamps c = rw c.in-Timestamps.is c.summary-in-Timestamps.ensures
 
+pub summary-requires-in-Rate : goal.summary-requires-in-Rate
+summary-requires-in-Rate c = rw c.in-Rate.is at c.requires
+
+pub returns-in-Rate : goal.returns-in-Rate
+returns-in-Rate c = rw c.in-Rate.is c.summary-in-Rate.ensures
+
 pub summary-requires-in-Restuff : goal.summary-requires-in-Restuff
 summary-requires-in-Restuff c = rw c.in-Restuff.is at c.requires
 

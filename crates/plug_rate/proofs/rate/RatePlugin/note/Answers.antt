@@ -1,0 +1,16 @@
+use Rattle.std.proofs.Common.{List, ◌++◌, ap, ◌∙◌}
+use Rattle.plugin_trait.specs.declared.line.Line.{Line}
+use Rattle.plug_rate.specs.RateState.{conf_of}
+use Rattle.plug_rate.proofs.Following.{can_fold, follows_to, given_is}
+use Rattle.plug_rate.proofs.rate.RatePlugin.note.Goals as goal
+
+pub fold_below-requires : goal.fold_below-requires
+fold_below-requires c = can_fold (conf_of c.args.self.now) _ _ _ _ _ c.requires.holds
+
+pub returns-clause-gives : goal.returns-clause-gives
+returns-clause-gives c = λ history mark w le within.
+    let folds = c.fold_below.ensures.folds in (
+      follows_to (conf_of c.args.self.now) _ _ _ history mark w c.args.written _ le within _ folds,
+      c.in_ok-push_lines_below.ensures.ok
+          ∙ ap (λ (lines : List Line). c.args.lines.now.items ++ lines) (given_is (conf_of c.args.self.now) _ _ _ history mark w c.args.written _ le within folds.takes),
+    )
