@@ -23,7 +23,7 @@ use Rattle.chain_plays.specs.declared.playing.Playing.{Playing}
 -- what a play begins with: its source, and some output
 abbrev pub began : {S K : Type 0} → CorePlan → S → OutputPart K → RunStart S K
 began plan source to =
-    record { from = Stream source; to = to; stuffing = no_stuffing; rules = []; rooms = []; plan = plan }
+    record { from = Stream source; to = to; stuffing = no_stuffing; rules = []; rooms = []; plan = plan; told = λ _. 0 }
 
 -- a source alone is a play of it, by any plan
 abbrev pub is_source : {S : Type 0} → CorePlan → S → HerePlay S → Type 0

@@ -33,6 +33,7 @@ use Rattle.stage_run.specs.declared.stage_part.StagePart.{StagePart}
 use Rattle.stage_run.specs.PartLists.{PartLists}
 use Rattle.stage_run.specs.PartStands.{PartStands, PartGives, rule_of, source_kind, sink_kind, a_stream, null_packets, generated_packets, no_stream, an_input, a_plugin, an_output}
 use Rattle.stage_run.specs.OutputStands.{SinkTook}
+use Rattle.stage_run.proofs.SinceLemmas.{all-since}
 use Rattle.stage_run.specs.Parts.{IsSourceOf, IsSinkOf, FailedReading, LeavesSource, LeavesInput, LeavesOutput}
 use Rattle.plugin_trait.specs.Steps.{IsPreallocatedFor}
 use Rattle.chain_run.specs.Met.{AllMetFirst}
@@ -297,19 +298,20 @@ module _ {S K P : Type 0} (see : Seeing S K P)
     pub made-input : gave-of 0 ≤ length list.cells
     made-input = let first = so-far.lists 0 (omega arith) in omega (arith, ap (λ (l : List Cell). length l) first.1, length-append (state.stages 0).given first.0)
 
-    pub met-all : (j : ℕ) (rest : List (StagePart S K P)) (made : List (Heard P)) → AreTakenFrom see rest made → j + length made ≡ begun.plan.plugins
+    pub met-all : ((j : ℕ) → begun.told j ≡ 0) → (j : ℕ) (rest : List (StagePart S K P)) (made : List (Heard P)) → AreTakenFrom see rest made → j + length made ≡ begun.plan.plugins
         → ((i : ℕ) (d : StagePart S K P) → i < length made → slice_index_or rest i d ≡ goes.part (suc (j + i))) → AllMetFirst (heard_stands see) begun.rules list gave-of cut j made
-    met-all j [] [] taken number same = tt
-    met-all j [] (plugin ∷ made) taken number same = absurd taken
-    met-all j (part ∷ []) [] taken number same = tt
-    met-all j (part ∷ next ∷ rest) [] taken number same = tt
-    met-all j (part ∷ rest) (plugin ∷ made) taken number same =
+    met-all untold j [] [] taken number same = tt
+    met-all untold j [] (plugin ∷ made) taken number same = absurd taken
+    met-all untold j (part ∷ []) [] taken number same = tt
+    met-all untold j (part ∷ next ∷ rest) [] taken number same = tt
+    met-all untold j (part ∷ rest) (plugin ∷ made) taken number same =
         let lt : j < begun.plan.plugins = omega arith in
         let is : part ≡ goes.part (suc j) = same 0 part (omega arith) ∙ ap (λ n. goes.part (suc n)) (omega arith) in
         let here = at-plugin j lt in
         let own = by.stands (suc j) (omega (arith, lt)) in
         let holds : heard_stands see plugin (goes.lists (suc j)).met (goes.lists (suc j)).mark =
-        taken.0.holds (goes.lists (suc j)) (state.stages (suc j)).ended (subst (λ p. PartStands see p (goes.lists (suc j)) (state.stages (suc j)).ended) (sym is) own.stands_for) in
+        all-since see.rule see.stands plugin (goes.lists (suc j)).met (goes.lists (suc j)).mark (goes.lists (suc j)).from (here.since ∙ untold j)
+        (taken.0.holds (goes.lists (suc j)) (state.stages (suc j)).ended (subst (λ p. PartStands see p (goes.lists (suc j)) (state.stages (suc j)).ended) (sym is) own.stands_for)) in
         let reached : cut ≤ length (state.stages (suc j)).given = at-close.reached (suc j) (omega arith) in
         let falls : length (state.stages (suc j)).given ≤ length (state.stages j).given = given-falls laws begun.plan goes.valid_run.valid.users goes.visits by.run (suc j) j (omega arith) in
         let prefix : IsPrefix (state.stages j).given (stage_list begun.rules list j).cells = so-far.lists j (omega arith) in
@@ -322,7 +324,7 @@ module _ {S K P : Type 0} (see : Seeing S K P)
             reach = reached;
             within = (let a = falls in omega (arith, ap (λ (l : List Cell). length l) prefix.1, length-append (state.stages j).given prefix.0));
           },
-          met-all (suc j) rest made taken.1 (omega arith) (λ i d below. same (suc i) d (omega arith) ∙ ap (λ n. goes.part (suc n)) (omega arith)),
+          met-all untold (suc j) rest made taken.1 (omega arith) (λ i d below. same (suc i) d (omega arith) ∙ ap (λ n. goes.part (suc n)) (omega arith)),
         )
 
     -- ---- memory

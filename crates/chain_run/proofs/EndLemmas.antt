@@ -124,7 +124,7 @@ module _ {S K P : Type 0} (see : Seeing S K P) where
           gave = gave-of see laws begun parts goes over;
           gave_to = gave-to see laws begun parts goes over chosen.list gives;
           input_gave = made-input see laws begun parts goes over chosen.list gives;
-          met = met-all see laws begun parts goes over chosen.list gives 0 rest made taken (omega arith) same;
+          met = met-all see laws begun parts goes over chosen.list gives (λ j. refl) 0 rest made taken (omega arith) same;
           memory = wants-of see laws begun parts goes over chosen.list gives;
           rules = rules-all see laws begun parts goes over 0 (map (heard_rule see) plugins) rest made taken (many ∙ sym rules-length) (omega arith) same
               (λ i lt. ap (rule_after (map (heard_rule see) plugins)) (let e : 0 + i ≡ i = omega arith in e));

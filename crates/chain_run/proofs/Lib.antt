@@ -19,3 +19,4 @@ pub mod EndLemmas
 pub mod RunUses
 pub mod PartLemmas
 pub mod StageLawLemmas
+pub mod MarkLemmas

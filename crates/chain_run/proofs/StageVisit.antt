@@ -235,7 +235,7 @@ module _ {S K P : Type 0} (see : Seeing S K P) (begun : RunStart S K)
       plugin = doing.plugin j e lt
 
       own-plugin : IsPlugin see begun new_part j after all-given (old.stages j).given
-      own-plugin = record { kind = worked.same_kind ∙ plugin.kind; rule_is = worked.same_rule ∙ plugin.rule_is; room_is = worked.same_preallocated ∙ plugin.room_is; met = met-new j e (omega arith) plugin.met }
+      own-plugin = record { kind = worked.same_kind ∙ plugin.kind; rule_is = worked.same_rule ∙ plugin.rule_is; room_is = worked.same_preallocated ∙ plugin.room_is; met = met-new j e (omega arith) plugin.met; since = w.behind.from ∙ plugin.since }
 
       keeps-plugin : (input : StageList) → Keeps begun.plan begun.rules input old visit
       keeps-plugin =

@@ -111,7 +111,7 @@ module _ {S K P : Type 0} (see : Seeing S K P) where
       (out_kind : kind_of out ≡ an_output) (out_stream : stream_kind out ≡ sink_kind to)
       (out_stands : (source : SourceView) (sink : SinkView) (mark : ℕ) → IsSinkOf see.sink to sink → PartStands see out (fresh_lists source sink mark) None) where
     abbrev pub began : RunStart S K
-    began = record { from = from; to = to; stuffing = stuffing_of stuffing; rules = map (heard_rule see) plugins; rooms = map (heard_preallocated see) plugins; plan = plan }
+    began = record { from = from; to = to; stuffing = stuffing_of stuffing; rules = map (heard_rule see) plugins; rooms = map (heard_preallocated see) plugins; plan = plan; told = λ _. 0 }
 
     abbrev parts : List (StagePart S K P)
     parts = first ∷ (made ++ out ∷ [])
@@ -152,6 +152,7 @@ module _ {S K P : Type 0} (see : Seeing S K P) where
           rule_is = here.is.same_rule ∙ sym here.rule_is;
           room_is = here.is.same_preallocated ∙ sym here.room_is;
           met = refl;
+          since = refl;
         }
 
     output-start : IsOutput see began (part (suc plan.plugins)) (lists (suc plan.plugins)) [] [] None 0 (λ (_ : StageList). Unit {0})

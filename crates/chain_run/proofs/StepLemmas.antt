@@ -71,7 +71,7 @@ module _ {S K P : Type 0} (see : Seeing S K P) (begun : RunStart S K) where
         mark = le_trans d.mark le;
         memory = d.memory;
         input = λ e. let i = d.input e in record { kind = i.kind; stuffing_is = i.stuffing_is; stream = i.stream; source = i.source; within = may_read-more begun.plan.buffer low low' (length lists.read) le i.within; is_list = i.is_list };
-        plugin = λ j e lt. let p = d.plugin j e lt in record { kind = p.kind; rule_is = p.rule_is; room_is = p.room_is; met = met_more j e p.met };
+        plugin = λ j e lt. let p = d.plugin j e lt in record { kind = p.kind; rule_is = p.rule_is; room_is = p.room_is; met = met_more j e p.met; since = p.since };
         output = λ e. let o = d.output e in record {
           kind = o.kind;
           stream = o.stream;

@@ -37,13 +37,15 @@ module _ {S K P : Type 0} (see : Seeing S K P) (begun : RunStart S K) where
     pub is_list : (input : StageList) → PartGives see part lists input
         → IsListOf see.source begun.from begun.stuffing input
 
-  -- the plugin after `j` others, which met as many of the cells that were given before it as it gave
+  -- the plugin after `j` others, which met as many of the cells that were given before it as it gave, and of which the lines
+  -- were taken away as far as is known
   pub record IsPlugin (part : StagePart S K P) (j : ℕ) (lists : PartLists) (given before : List Cell)
       : Type 0 where
     pub kind : kind_of part ≡ a_plugin
     pub rule_is : rule_of see part ≡ rule_after begun.rules j
     pub room_is : preallocated_of see part ≡ slice_index_or begun.rooms j None
     pub met : lists.met ≡ take (length given) before
+    pub since : lists.from ≡ begun.told j
 
   -- a write failed in the packet of the next cell, and no joint position is so near
   pub record Failed (lists : PartLists) (given before : List Cell) (taken : ℕ) (Gives : StageList → Type 0)

@@ -6,6 +6,7 @@ use Rattle.chain_core.specs.declared.stage_end.StageEnd.{StageEnd}
 use Rattle.plugin_trait.specs.declared.heard.Heard.{Heard}
 use Rattle.stage_run.specs.Seeing.{Seeing, heard_rule, heard_stands, heard_preallocated}
 use Rattle.stage_run.specs.declared.stage_part.StagePart.{StagePart}
+use Rattle.stage_run.specs.HeardSince.{HeardSince}
 use Rattle.stage_run.specs.PartLists.{PartLists, fresh_lists}
 use Rattle.stage_run.specs.PartStands.{PartStands, PartGives, kind_of, rule_of, preallocated_of, stuffing_in, source_kind, sink_kind, stream_kind, an_input, a_plugin, an_output}
 use Rattle.stage_run.specs.Parts.{LeavesInput, LeavesOutput, SomeList}
@@ -28,11 +29,11 @@ module _ {S K P : Type 0} (see : Seeing S K P) where
   AreMadeOf (part ∷ parts) (plugin ∷ plugins) = MadeOf part plugin × AreMadeOf parts plugins
   AreMadeOf _ _ = ⊥
 
-  -- the plugin that a stage returns, with its lines
+  -- the plugin that a stage returns, with the lines that were not taken away
   pub record TakenFrom (part : StagePart S K P) (plugin : Heard P) : Type 0 where
     pub same_rule : heard_rule see plugin ≡ rule_of see part
     pub holds : (lists : PartLists) (told : Option StageEnd) → PartStands see part lists told
-        → heard_stands see plugin lists.met lists.mark
+        → HeardSince see.rule see.stands lists.from plugin lists.met lists.mark
 
   -- each is the plugin that the stage at its place returns; after them stands the output's stage
   abbrev pub AreTakenFrom : List (StagePart S K P) → List (Heard P) → Type 0

@@ -21,7 +21,8 @@ nothing_told = record { agreed = None; ended = None }
 abbrev pub between : ChainState → ℕ → List Cell
 between state k = drop (length (state.stages (suc k)).given) (state.stages k).given
 
--- what a run began with: its ends, its stuffing, the rules and the rooms of its plugins, and its plan
+-- what a run began with: its ends, its stuffing, the rules and the rooms of its plugins, and its plan; and how far its lines
+-- were taken away since
 pub record RunStart (S K : Type 0) : Type 0 where
   pub from : InputPart S
   pub to : OutputPart K
@@ -30,6 +31,8 @@ pub record RunStart (S K : Type 0) : Type 0 where
   -- for how many positions after its mark each plugin made room, where it did
   pub rooms : List (Option ℕ)
   pub plan : CorePlan
+  -- the position up to which the lines of the plugin after `j` others were taken away
+  pub told : ℕ → ℕ
 
 -- the chain that these ends and plugins begin
 abbrev pub began_with : {S K P : Type 0} → Seeing S K P → InputPart S → Stuffing → List (Heard P) → OutputPart K
@@ -41,4 +44,9 @@ began_with see from stuffing plugins to plan = record {
   rules = map (heard_rule see) plugins;
   rooms = map (heard_preallocated see) plugins;
   plan = plan;
+  told = λ _. 0;
 }
+
+-- the same where lines were taken away up to these positions
+abbrev pub told_to : {S K : Type 0} → RunStart S K → (ℕ → ℕ) → RunStart S K
+told_to begun told = record begun { told = told }

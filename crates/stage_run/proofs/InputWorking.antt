@@ -112,6 +112,7 @@ lists_after lists bytes cells given = record {
   source = lists.source;
   sink = lists.sink;
   mark = lists.mark;
+  from = lists.from;
 }
 
 EndsSo-limit : {S : Type 0} (stage : InputStage S) (how : InputEnd) → EndsAtLimit stage how → EndsSo stage.ended stage.nulls (IsReady stage.feed) how
@@ -241,6 +242,7 @@ module _ {S : Type 0} (seen : S → SourceView) where
           source = refl;
           sink = refl;
           mark = mark;
+          from = refl;
         };
         stands = record { holds = holds; fits = fit; within = fits };
         does = record {

@@ -1,3 +1,4 @@
+pub mod SinceLemmas
 pub mod CellLemmas
 pub mod GeneratedLemmas
 pub mod WritingLemmas

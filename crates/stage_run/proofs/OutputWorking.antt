@@ -132,6 +132,7 @@ lists_given lists cells cut = record {
   source = lists.source;
   sink = lists.sink;
   mark = lists.mark;
+  from = lists.from;
 }
 
 module _ {K : Type 0} (seen : K → SinkView) where
@@ -199,7 +200,7 @@ module _ {K : Type 0} (seen : K → SinkView) where
       let after : PartLists = lists_given lists (take done cells) [] in
       record {
         after = after;
-        behind = record { met = refl; given = refl; read = ([], sym (append-nil lists.read)); source = refl; sink = refl; mark = may.mark };
+        behind = record { met = refl; given = refl; read = ([], sym (append-nil lists.read)); source = refl; sink = refl; mark = may.mark; from = refl };
         stands = record {
           same = ap (λ (l : List Cell). l ++ take done cells) was.same;
           took = subst (λ (l : List Cell). PartTook seen new.part (lists_given lists l []) (if b then Some Followed else None)) (sym piece) took_all.0;
@@ -231,7 +232,7 @@ module _ {K : Type 0} (seen : K → SinkView) where
       let limit_is : below_limit news.limit (length lists.given) (length cells) ≡ len = ap (λ (n : ℕ). below_limit news.limit n (length cells)) given_is ∙ sym is in
       record {
         after = after;
-        behind = record { met = refl; given = refl; read = ([], sym (append-nil lists.read)); source = refl; sink = refl; mark = may.mark };
+        behind = record { met = refl; given = refl; read = ([], sym (append-nil lists.read)); source = refl; sink = refl; mark = may.mark; from = refl };
         stands = record {
           same = ap (λ (l : List Cell). l ++ take done cells) was.same;
           took = subst (λ (l : List Cell). PartTook seen new.part (lists_given lists l cut.part) (Some WriteFault)) piece cut.took_part;

@@ -10,7 +10,6 @@ use Rattle.chain_model.specs.Joint.{agreement_of}
 use Rattle.chain_model.proofs.ApplyLaws.{apply-ended, apply-last}
 use Rattle.chain_model.proofs.PrefixLemmas.{IsPrefix-apply}
 use Rattle.plugin_trait.specs.Driving.{Makes, end_of_window, made_so_far, TellsAgreement, newly_agreed}
-use Rattle.plugin_trait.specs.HeardStands.{HeardStands}
 use Rattle.plugin_trait.specs.Steps.{IsPreallocatedFor}
 use Rattle.plugin_trait.specs.declared.list_end.ListEnd.{ListEnd}
 use Rattle.plugin_trait.specs.declared.list_end.ListEnd.TheVariants.{Through}
@@ -24,6 +23,7 @@ use Rattle.chain_core.specs.Keeps.{IsEndOf, EndsAs, KeepsList, KeepsAgreement}
 use Rattle.stage_run.specs.declared.work.Work.{Work}
 use Rattle.stage_run.specs.declared.plugin_stage.PluginStage.{PluginStage}
 use Rattle.stage_run.specs.PartLists.{PartLists}
+use Rattle.stage_run.specs.HeardSince.{HeardSince}
 use Rattle.stage_run.specs.PartStands.{MayWork}
 use Rattle.stage_run.specs.PluginSteps.{told_by}
 use Rattle.stage_run.specs.PluginStands.{PluginStands, end_after_met}
@@ -206,6 +206,7 @@ lists_met lists cells given mark = record {
   source = lists.source;
   sink = lists.sink;
   mark = mark;
+  from = lists.from;
 }
 
 -- what is reported of a window
@@ -218,7 +219,7 @@ module _ {P : Type 0} (rule_at : P → PluginRule) (stands : P → List Cell →
       → length cells_new ≡ length cells → done ≤ length cells
       → Makes (apply_after (rule_at old.heard.plugin) lists.met cells) (take done cells_new) end
       → apply_after (rule_at old.heard.plugin) lists.met (take done cells) ≡ made_so_far (take done cells_new) end
-      → (mark : ℕ) → HeardStands rule_at stands new.heard (lists.met ++ take done cells) mark → mark ≤ written
+      → (mark : ℕ) → HeardSince rule_at stands lists.from new.heard (lists.met ++ take done cells) mark → mark ≤ written
       → (0 < length cells → (end ≡ window.NoMemory → ⊥) → mark ≡ news.written)
       → TellsAgreement (rule_at old.heard.plugin) (lists.met ++ take done cells) at agreed new.agreed
       → Works (PluginStands rule_at stands new) (PluginWorks (rule_at old.heard.plugin) lists news cells cells_new (plugin_work done agreed end news (at + done))) lists written cells cells_new (plugin_work done agreed end news (at + done))
@@ -239,7 +240,7 @@ module _ {P : Type 0} (rule_at : P → PluginRule) (stands : P → List Cell →
       let tells_here : agreed ≡ newly_agreed (length lists.given) (agreement_of rule met) = tells.tells ∙ ap (λ (n : ℕ). newly_agreed n (agreement_of rule met)) (sym given_is) in
       record {
         after = lists_met lists (take done cells) made mark;
-        behind = record { met = refl; given = refl; read = ([], sym (append-nil lists.read)); source = refl; sink = refl; mark = below };
+        behind = record { met = refl; given = refl; read = ([], sym (append-nil lists.read)); source = refl; sink = refl; mark = below; from = refl };
         stands = record {
           heard = holds;
           given = sym (ap (λ (l : StageList). l.cells) all) ∙ ap (λ (r : PluginRule). (apply r met).cells) (sym same_rule);

@@ -22,6 +22,7 @@ with_more lists bytes cells = record {
   source = lists.source;
   sink = lists.sink;
   mark = lists.mark;
+  from = lists.from;
 }
 
 -- how many null packets come after an end

@@ -7,11 +7,13 @@ pub mod GeneratedInput
 pub mod InputStands
 pub mod InputSteps
 pub mod PluginSteps
+pub mod HeardSince
 pub mod PluginStands
 pub mod OutputStands
 pub mod Writing
 pub mod Telling
 pub mod PartStands
+pub mod Noting
 pub mod Works
 pub mod RoomSize
 pub mod Parts

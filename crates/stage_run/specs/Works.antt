@@ -40,7 +40,7 @@ use Rattle.chain_model.specs.Written.{IsPartOfFirst}
 use Rattle.stage_run.specs.PartStands.{PartStands, MayWork, MayWantMemory, rule_of, kind_of, preallocated_of, stuffing_in}
 use Rattle.stage_run.specs.Telling.{FollowsNews, may_follow, told_of, below_limit}
 
--- the lists after a visit: more was met and given; what was read and written and the mark are a part's own
+-- the lists after a visit: more was met and given; what was read and written and the mark are a part's own; no line is taken away
 pub record Behind (old new : PartLists) (cells cells_given : List Cell) (written : ℕ) : Type 0 where
   pub met : new.met ≡ old.met ++ cells
   pub given : new.given ≡ old.given ++ cells_given
@@ -48,6 +48,7 @@ pub record Behind (old new : PartLists) (cells cells_given : List Cell) (written
   pub source : new.source ≡ old.source
   pub sink : new.sink ≡ old.sink
   pub mark : new.mark ≤ written
+  pub from : new.from ≡ old.from
 
 -- for how many packets, counted from its beginning, an input may read that works on `len` cells after `at`: for its
 -- cells, but for one packet more at the last position

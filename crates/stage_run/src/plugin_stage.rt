@@ -6,7 +6,9 @@ ghost use Rattle.stage_run.specs.PluginSteps.{told_by};
 use crate::Work;
 use crate::telling::followed;
 use chain_core::{News, StageEnd, StageWord};
-use plugin_trait::{Applied, Heard, ListEnd, Plugin};
+use plugin_trait::{Applied, Heard, Line, ListEnd, Plugin};
+use std::alloc::{AllocError, Global};
+use std::mem;
 use ts_outside::Gate;
 use ts_packet::Cell;
 
@@ -40,9 +42,12 @@ impl<P: Plugin> PluginStage<P> {
     ghost use Rattle.ts_outside.specs.Sink.{SinkView};
     ghost use Rattle.plugin_trait.specs.Steps.{MeetsCells, IsPreallocatedFor};
     ghost use Rattle.plugin_trait.specs.HeardStands.{HeardStands};
+    ghost use Rattle.plugin_trait.specs.Marks.{AllowsMark};
+    ghost use Rattle.plugin_trait.specs.PlacedLines.{placed_between};
     ghost use Rattle.plugin_trait.specs.Driving.{Makes, made_so_far, TellsAgreement};
     ghost use Rattle.stage_run.specs.PluginSteps.{Allows, MayPass, StandsTold};
-    ghost use Rattle.stage_run.specs.PartLists.{PartLists, fresh_lists};
+    ghost use Rattle.stage_run.specs.PartLists.{PartLists, fresh_lists, marked_by, lines_taken};
+    ghost use Rattle.stage_run.specs.HeardSince.{HeardSince};
     ghost use Rattle.stage_run.specs.PluginStands.{PluginStands};
     ghost use Rattle.stage_run.specs.PartStands.{MayWork, MayWorkOnSome};
     ghost use Rattle.stage_run.specs.Works.{PluginWork};
@@ -70,26 +75,51 @@ impl<P: Plugin> PluginStage<P> {
         heard
     }
 
+    /// Gives the plugin a mark, and keeps the lines up to it. Out of memory it keeps what it had.
+    pub(crate) fn note(&mut self, written: u64) -> Result<(), AllocError>
+        requires { AllowsMark (P.stands_for self.old.heard.plugin) written }
+        ensures noted { (lists : PartLists) (told : Option StageEnd)
+            → PluginStands P.rule P.stands_for self.old lists told
+            → lists.mark ≤ written → written ≤ length lists.met
+            → PluginStands P.rule P.stands_for self.new (marked_by lists written result) told }
+        ensures same_rule { P.rule self.new.heard.plugin ≡ P.rule self.old.heard.plugin }
+        ensures same_preallocated { P.preallocated self.new.heard.plugin ≡ P.preallocated self.old.heard.plugin }
+    {
+        let heard = &mut self.heard;
+        heard.plugin.note(written, &mut heard.lines)
+    }
+
+    /// Takes away the lines that the plugin gave out: those up to its mark that were not taken before.
+    pub(crate) fn take_lines(&mut self, alloc: Global) -> Vec<Line>
+        ensures taken { (lists : PartLists) (told : Option StageEnd)
+            → PluginStands P.rule P.stands_for self.old lists told
+            → (result.items ≡ placed_between (P.rule self.old.heard.plugin) lists.met lists.from lists.mark)
+            × PluginStands P.rule P.stands_for self.new (lines_taken lists) told }
+        ensures same_plugin { self.new.heard.plugin ≡ self.old.heard.plugin }
+    {
+        mem::replace(&mut self.heard.lines, Vec::new(alloc))
+    }
+
     /// Gives the plugin the mark, keeps the lines up to it, and takes the plugin over the cells.
     fn pass(&mut self, at: u64, cells: &mut [Cell], written: u64) -> Applied
-        requires may { MayPass (HeardStands P.rule P.stands_for self.old.heard) at written }
+        requires may { MayPass (P.stands_for self.old.heard.plugin) at written }
         requires in_range { at + length cells.old ≤ POSITION_LIMIT }
         ensures count { result.count ≤ length cells.old }
         ensures rest { drop result.count cells.new ≡ drop result.count cells.old }
         ensures makes { (history : List Cell) (mark : ℕ)
-            → Allows (HeardStands P.rule P.stands_for self.old.heard) at written history mark
+            → Allows (P.stands_for self.old.heard.plugin) at written history mark
             → Makes (apply_after (P.rule self.old.heard.plugin) history cells.old)
             (take result.count cells.new) result.end }
         ensures far { (history : List Cell) (mark : ℕ)
-            → Allows (HeardStands P.rule P.stands_for self.old.heard) at written history mark
+            → Allows (P.stands_for self.old.heard.plugin) at written history mark
             → apply_after (P.rule self.old.heard.plugin) history (take result.count cells.old)
             ≡ made_so_far (take result.count cells.new) result.end }
-        ensures met { (history : List Cell) (mark : ℕ)
-            → Allows (HeardStands P.rule P.stands_for self.old.heard) at written history mark
-            → StandsTold (HeardStands P.rule P.stands_for self.new.heard)
+        ensures met { (from : ℕ) (history : List Cell) (mark : ℕ)
+            → Allows (HeardSince P.rule P.stands_for from self.old.heard) at written history mark
+            → StandsTold (HeardSince P.rule P.stands_for from self.new.heard)
             (history ++ take result.count cells.old) written result.end }
         ensures agreed { (history : List Cell) (mark : ℕ)
-            → Allows (HeardStands P.rule P.stands_for self.old.heard) at written history mark
+            → Allows (P.stands_for self.old.heard.plugin) at written history mark
             → self.old.agreed ≡ is_some (agreement_of (P.rule self.old.heard.plugin) history)
             → TellsAgreement (P.rule self.old.heard.plugin) (history ++ take result.count cells.old)
             at result.agreed self.new.agreed }

@@ -7,7 +7,8 @@ use crate::{
     InputPart, InputStage, IoBuffer, OutputPart, OutputStage, PluginStage, Stuffing, Work,
 };
 use chain_core::News;
-use plugin_trait::{Heard, Plugin};
+use plugin_trait::{Heard, Line, Plugin};
+use std::alloc::{AllocError, Global};
 use ts_outside::{Gate, Sink, Source};
 use ts_packet::Cell;
 
@@ -32,7 +33,10 @@ impl<S: Source, K: Sink, P: Plugin> StagePart<S, K, P> {
     ghost use Rattle.plugin_trait.specs.Steps.{MeetsCells};
     ghost use Rattle.plugin_trait.specs.HeardStands.{HeardStands};
     ghost use Rattle.stage_run.specs.Seeing.{seeing};
-    ghost use Rattle.stage_run.specs.PartLists.{PartLists, fresh_lists};
+    ghost use Rattle.plugin_trait.specs.PlacedLines.{placed_between};
+    ghost use Rattle.stage_run.specs.HeardSince.{HeardSince};
+    ghost use Rattle.stage_run.specs.Noting.{AllowsNote, Noted};
+    ghost use Rattle.stage_run.specs.PartLists.{PartLists, fresh_lists, marked_by, lines_taken};
     ghost use Rattle.stage_run.specs.InputStands.{stuffing_of};
     ghost use Rattle.stage_run.specs.Parts.{IsListOf, IsSourceOf, IsSinkOf, IsUnused, LeavesInput, LeavesOutput, SomeList};
     ghost use Rattle.stage_run.specs.PartStands.{PartStands, PartGives, MayWork, MayWorkOnSome, rule_of, preallocated_of, kind_of, stuffing_in, source_kind, sink_kind, stream_kind, an_input, a_plugin, an_output};
@@ -99,16 +103,46 @@ impl<S: Source, K: Sink, P: Plugin> StagePart<S, K, P> {
         }
     }
 
-    /// Returns the plugin with the lines that it gave out.
+    /// Returns the plugin with the lines that it gave out and that were not taken away.
     pub fn into_plugin(self) -> Heard<P>
         requires { kind_of self ≡ a_plugin }
         ensures rule { P.rule result.plugin ≡ rule_of (seeing S.seen K.seen P.rule P.stands_for P.preallocated) self }
         ensures stands { (lists : PartLists) (told : Option StageEnd)
             → PartStands (seeing S.seen K.seen P.rule P.stands_for P.preallocated) self lists told
-            → HeardStands P.rule P.stands_for result lists.met lists.mark }
+            → HeardSince P.rule P.stands_for lists.from result lists.met lists.mark }
     {
         match self {
             StagePart::Plugin(stage) => stage.into_plugin(),
+            _ => unreachable!(),
+        }
+    }
+
+    /// Gives a plugin a mark between two turns, and keeps its lines up to it. Out of memory it keeps what it had.
+    pub fn note(&mut self, written: u64) -> Result<(), AllocError>
+        requires kind { kind_of self.old ≡ a_plugin }
+        requires allows { AllowsNote (PartStands (seeing S.seen K.seen P.rule P.stands_for P.preallocated) self.old)
+            written }
+        ensures noted { Noted (seeing S.seen K.seen P.rule P.stands_for P.preallocated) self.old self.new
+            (λ lists. marked_by lists written result) (λ lists. (lists.mark ≤ written) × (written ≤ length lists.met)) }
+    {
+        match self {
+            StagePart::Plugin(stage) => stage.note(written),
+            _ => unreachable!(),
+        }
+    }
+
+    /// Takes away the lines that a plugin gave out: those up to its mark that were not taken before.
+    pub fn take_lines(&mut self, alloc: Global) -> Vec<Line>
+        requires kind { kind_of self.old ≡ a_plugin }
+        ensures noted { Noted (seeing S.seen K.seen P.rule P.stands_for P.preallocated) self.old self.new
+            lines_taken (λ lists. Unit {0}) }
+        ensures taken { (lists : PartLists) (told : Option StageEnd)
+            → PartStands (seeing S.seen K.seen P.rule P.stands_for P.preallocated) self.old lists told
+            → result.items ≡ placed_between
+            (rule_of (seeing S.seen K.seen P.rule P.stands_for P.preallocated) self.old) lists.met lists.from lists.mark }
+    {
+        match self {
+            StagePart::Plugin(stage) => stage.take_lines(alloc),
             _ => unreachable!(),
         }
     }

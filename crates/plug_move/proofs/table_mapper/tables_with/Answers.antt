@@ -1,4 +1,4 @@
-use Rattle.std.proofs.Common.{◌≡◌, ◌==◌, false, true, [], ◌∷◌, ◌++◌, sym, ◌∙◌, ap, refl, subst, true≢false, arith}
+use Rattle.std.proofs.Common.{◌≡◌, ◌==◌, false, true, [], ◌∷◌, ◌++◌, sym, ◌∙◌, ap, refl, subst, true≢false}
 use Rattle.std.proofs.lemmas.Bool.{ne_eqb}
 use Rattle.ts_packet.specs.Header.{pid_of}
 use Rattle.ts_demux.specs.PidTables.{StandsFor}

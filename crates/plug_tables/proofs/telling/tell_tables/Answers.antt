@@ -1,4 +1,4 @@
-use Rattle.std.proofs.Common.{ℕ, ◌≡◌, length, ap, arith}
+use Rattle.std.proofs.Common.{◌≡◌, length, ap, arith}
 use Rattle.plug_tables.proofs.ToldLemmas.{texts_more}
 use Rattle.plug_tables.proofs.telling.tell_tables.Goals as goal
 

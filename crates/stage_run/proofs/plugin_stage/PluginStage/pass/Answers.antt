@@ -1,16 +1,16 @@
 use Rattle.std.proofs.Common.{◌≡◌, ◌≤◌, ℕ, ◌+◌, ◌-◌, List, [], ◌++◌, length, ap, refl, sym, subst, ◌∙◌, arith, length-append, append-nil, take, is_some, Bool, true, false, not, if◌then◌else◌, Result, is_ok, IsOk, Option, None, Some, IsSome}
-use Rattle.std.proofs.lemmas.List.{take-append-le}
 use Rattle.ts_packet.specs.declared.cell.Cell.{Cell}
 use Rattle.chain_model.specs.PluginRule.{PluginRule}
 use Rattle.chain_model.specs.Apply.{apply_after}
 use Rattle.chain_model.specs.Joint.{agreement_of}
 use Rattle.chain_model.proofs.AgreementLaws.{agreement_of-within}
 use Rattle.plugin_trait.specs.Steps.{IsPreallocatedFor}
-use Rattle.plugin_trait.specs.PlacedLines.{placed_after, placed_between}
+use Rattle.plugin_trait.specs.PlacedLines.{placed_between}
 use Rattle.plugin_trait.specs.Driving.{Makes, TellsAgreement, made_so_far}
 use Rattle.plugin_trait.specs.declared.line.Line.{Line}
-use Rattle.plugin_trait.proofs.Giving.{given_out}
+use Rattle.plugin_trait.proofs.Giving.{joined}
 use Rattle.plugin_trait.proofs.AgreeingLemmas.{newly_agreed-within}
+use Rattle.stage_run.proofs.SinceLemmas.{between-more}
 use Rattle.stage_run.proofs.plugin_stage.PluginStage.pass.Goals as goal
 
 -- a mark that was given, and the lines up to it
@@ -30,15 +30,15 @@ unnoted stands plugin rule history written mark before after true true is some_ 
 unnoted stands plugin rule history written mark before after true false is some_ gives = absurd cc
 
 -- with the lines that were given out up to the mark, they are those of the cells below it, whatever is met after these
-lines_below : (rule new_rule : PluginRule) (history more : List Cell) (mark written : ℕ) → mark ≤ written → written ≤ length history → new_rule ≡ rule
-    → (before after : List Line) → before ≡ placed_after rule [] (take mark history) → after ≡ before ++ placed_between rule history mark written
-    → after ≡ placed_after new_rule [] (take written (history ++ more))
-lines_below rule new_rule history more mark written low high same before after was given =
+lines_below : (rule new_rule : PluginRule) (history more : List Cell) (from mark written : ℕ) → from ≤ mark → mark ≤ written → written ≤ length history → new_rule ≡ rule
+    → (before after : List Line) → before ≡ placed_between rule history from mark → after ≡ before ++ placed_between rule history mark written
+    → after ≡ placed_between new_rule (history ++ more) from written
+lines_below rule new_rule history more from mark written first low high same before after was given =
     given
     ∙ (ap (λ (lines : List Line). lines ++ placed_between rule history mark written) was
-    ∙ (given_out rule history mark written low
-    ∙ (ap (λ (cells : List Cell). placed_after rule [] cells) (sym (take-append-le written history more high))
-    ∙ ap (λ (r : PluginRule). placed_after r [] (take written (history ++ more))) (sym same))))
+    ∙ (joined rule history from mark written first low
+    ∙ (between-more rule history more from written (omega arith) high
+    ∙ ap (λ (r : PluginRule). placed_between r (history ++ more) from written) (sym same))))
 
 -- a plugin that made room notes its mark
 failed-unsteady : {E : Type 0} (preallocated : Option ℕ) (result : Result Unit E) (count : ℕ) (err : Bool) → (IsSome preallocated → IsOk result)
@@ -62,7 +62,7 @@ returns-then-is_err-clause-room g c = λ has.
     c.note.ensures.room c.is_err.ensures.negation c.if-is_err.true has)
 
 pub returns-then-is_err-clause-met : goal.returns-then-is_err-clause-met
-returns-then-is_err-clause-met g c = λ history mark allows.
+returns-then-is_err-clause-met g c = λ from history mark allows.
     let rule = g.P.Plugin.rule c.args.self.now.heard.plugin in
     let gives = unnoted g.P.Plugin.stands_for c.note.new.self rule history c.args.written mark _ _ _ c.is_err.result c.is_err.ensures.negation c.if-is_err.true
     (c.note.ensures.gives history mark allows.holds.holds allows.not_below (omega (arith, allows.within, allows.count))) in
@@ -72,8 +72,9 @@ returns-then-is_err-clause-met g c = λ history mark allows.
       holds = record {
         holds = subst (λ (h : List Cell). g.P.Plugin.stands_for c.note.new.self h mark) (sym same) gives.0;
         lines = gives.1 ∙ (allows.holds.lines
-            ∙ (ap (λ (h : List Cell). placed_after rule [] (take mark h)) (sym same)
-            ∙ ap (λ (r : PluginRule). placed_after r [] (take mark (history ++ []))) (sym c.note.ensures.same_rule)));
+            ∙ (ap (λ (h : List Cell). placed_between rule h from mark) (sym same)
+            ∙ ap (λ (r : PluginRule). placed_between r (history ++ []) from mark) (sym c.note.ensures.same_rule)));
+        taken = allows.holds.taken;
       };
       below = allows.not_below;
       told = λ fine. absurd (fine refl);
@@ -82,19 +83,19 @@ returns-then-is_err-clause-met g c = λ history mark allows.
 pub returns-clause-makes : goal.returns-clause-makes
 returns-clause-makes g c = λ history mark allows.
     let gives = noted g.P.Plugin.stands_for c.note.new.self (g.P.Plugin.rule c.args.self.now.heard.plugin) history c.args.written mark _ _ _ c.is_err.result c.is_err.ensures.negation c.if-is_err.false
-    (c.note.ensures.gives history mark allows.holds.holds allows.not_below (omega (arith, allows.within, allows.count))) in
+    (c.note.ensures.gives history mark allows.holds allows.not_below (omega (arith, allows.within, allows.count))) in
     subst (λ (r : PluginRule). Makes (apply_after r history c.args.cells.now) (take c.steps.result.count c.steps.new.cells) c.steps.result.end)
     c.note.ensures.same_rule (c.steps.ensures.makes history c.args.written gives.0 allows.count)
 
 pub returns-clause-far : goal.returns-clause-far
 returns-clause-far g c = λ history mark allows.
     let gives = noted g.P.Plugin.stands_for c.note.new.self (g.P.Plugin.rule c.args.self.now.heard.plugin) history c.args.written mark _ _ _ c.is_err.result c.is_err.ensures.negation c.if-is_err.false
-    (c.note.ensures.gives history mark allows.holds.holds allows.not_below (omega (arith, allows.within, allows.count))) in
+    (c.note.ensures.gives history mark allows.holds allows.not_below (omega (arith, allows.within, allows.count))) in
     subst (λ (r : PluginRule). apply_after r history (take c.steps.result.count c.args.cells.now) ≡ made_so_far (take c.steps.result.count c.steps.new.cells) c.steps.result.end)
     c.note.ensures.same_rule (c.steps.ensures.far history c.args.written gives.0 allows.count)
 
 pub returns-clause-met : goal.returns-clause-met
-returns-clause-met g c = λ history mark allows.
+returns-clause-met g c = λ from history mark allows.
     let rule = g.P.Plugin.rule c.args.self.now.heard.plugin in
     let within : c.args.written ≤ length history = omega (arith, allows.within, allows.count) in
     let gives = noted g.P.Plugin.stands_for c.note.new.self rule history c.args.written mark _ _ _ c.is_err.result c.is_err.ensures.negation c.if-is_err.false
@@ -103,8 +104,9 @@ returns-clause-met g c = λ history mark allows.
       mark = c.args.written;
       holds = record {
         holds = c.steps.ensures.met history c.args.written gives.0 allows.count;
-        lines = lines_below rule _ history (take c.steps.result.count c.args.cells.now) mark c.args.written allows.not_below within
+        lines = lines_below rule _ history (take c.steps.result.count c.args.cells.now) from mark c.args.written allows.holds.taken allows.not_below within
             (c.steps.ensures.same_rule ∙ c.note.ensures.same_rule) _ _ allows.holds.lines gives.1;
+        taken = let a = allows.holds.taken in let b = allows.not_below in omega arith;
       };
       below = omega arith;
       told = λ fine. refl;
@@ -113,7 +115,7 @@ returns-clause-met g c = λ history mark allows.
 pub returns-clause-agreed : goal.returns-clause-agreed
 returns-clause-agreed g c = λ history mark allows notes.
     let gives = noted g.P.Plugin.stands_for c.note.new.self (g.P.Plugin.rule c.args.self.now.heard.plugin) history c.args.written mark _ _ _ c.is_err.result c.is_err.ensures.negation c.if-is_err.false
-    (c.note.ensures.gives history mark allows.holds.holds allows.not_below (omega (arith, allows.within, allows.count))) in
+    (c.note.ensures.gives history mark allows.holds allows.not_below (omega (arith, allows.within, allows.count))) in
     subst (λ (r : PluginRule). TellsAgreement r (history ++ take c.steps.result.count c.args.cells.now) c.args.at c.steps.result.agreed c.steps.new.noted)
     c.note.ensures.same_rule (c.steps.ensures.agreed history c.args.written gives.0 allows.count
     (notes ∙ ap (λ (r : PluginRule). is_some (agreement_of r history)) (sym c.note.ensures.same_rule)))
@@ -122,7 +124,7 @@ pub returns-clause-room : goal.returns-clause-room
 returns-clause-room g c = λ has.
     let may = c.requires.may in
     let gives = noted g.P.Plugin.stands_for c.note.new.self (g.P.Plugin.rule c.args.self.now.heard.plugin) may.history c.args.written may.mark _ _ _ c.is_err.result c.is_err.ensures.negation c.if-is_err.false
-    (c.note.ensures.gives may.history may.mark may.allows.holds.holds may.allows.not_below (omega (arith, may.allows.within, may.allows.count))) in
+    (c.note.ensures.gives may.history may.mark may.allows.holds may.allows.not_below (omega (arith, may.allows.within, may.allows.count))) in
     c.steps.ensures.room (record {
       history = may.history;
       mark = c.args.written;

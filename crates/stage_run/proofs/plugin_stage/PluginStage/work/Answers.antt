@@ -2,13 +2,13 @@ use Rattle.std.proofs.Common.{◌≡◌, ℕ, ◌+◌, ◌-◌, ◌≤◌, Optio
 use Rattle.std.proofs.lemmas.Bool.{eqb-true}
 use Rattle.plugin_trait.specs.declared.list_end.ListEnd.TheVariants.{Through}
 use Rattle.plugin_trait.specs.Steps.{IsPreallocatedFor}
-use Rattle.plugin_trait.specs.HeardStands.{HeardStands}
 use Rattle.chain_model.specs.PluginRule.{PluginRule}
 use Rattle.chain_core.specs.declared.stage_end.StageEnd.{StageEnd}
 use Rattle.stage_run.specs.PartStands.{MayWork}
 use Rattle.stage_run.specs.declared.plugin_stage.PluginStage.{PluginStage}
 use Rattle.chain_model.specs.Apply.{apply_after}
 use Rattle.stage_run.specs.PartLists.{PartLists}
+use Rattle.stage_run.specs.HeardSince.{HeardSince}
 use Rattle.stage_run.specs.Telling.{followed, FollowsNews}
 use Rattle.stage_run.proofs.InputWorking.{plain_work}
 use Rattle.plugin_trait.proofs.AgreeingLemmas.{newly_agreed-within}
@@ -27,8 +27,14 @@ use Rattle.stage_run.proofs.plugin_stage.PluginStage.work.Goals as goal
 
 -- lists after which a plugin's stage may work allow its mark
 allowed : {P : Type 0} (rule : P → PluginRule) (stands : P → List Cell → ℕ → Type 0) (old : PluginStage P) (lists : PartLists) (at written : ℕ)
-    → MayWork (PluginStands rule stands old) at written lists → written ≤ at → Allows (HeardStands rule stands old.heard) at written lists.met lists.mark
+    → MayWork (PluginStands rule stands old) at written lists → written ≤ at → Allows (stands old.heard.plugin) at written lists.met lists.mark
 allowed rule stands old lists at written may within =
+    record { holds = may.goes_on.heard.holds; count = sym may.goes_on.length_same ∙ may.given; not_below = may.mark; within = within }
+
+-- and its lines with it
+allowed-heard : {P : Type 0} (rule : P → PluginRule) (stands : P → List Cell → ℕ → Type 0) (old : PluginStage P) (lists : PartLists) (at written : ℕ)
+    → MayWork (PluginStands rule stands old) at written lists → written ≤ at → Allows (HeardSince rule stands lists.from old.heard) at written lists.met lists.mark
+allowed-heard rule stands old lists at written may within =
     record { holds = may.goes_on.heard; count = sym may.goes_on.length_same ∙ may.given; not_below = may.mark; within = within }
 
 pub returns-clause-work : goal.returns-clause-work
@@ -66,7 +72,7 @@ returns-clause-work g c =
           (c.args.at + length cells - news.written) (let a = c.requires.in_hand in omega arith) preallocated) end;
       works = λ lists may'.
           let fine = allowed rule stands old lists c.args.at news.written may' c.requires.written in
-          let met = c.pass-stepped.ensures.met lists.met lists.mark fine in
+          let met = c.pass-stepped.ensures.met lists.from lists.met lists.mark (allowed-heard rule stands old lists c.args.at news.written may' c.requires.written) in
           subst (λ (e : Option StageEnd). Works (PluginStands rule stands new) (PluginWorks (rule old.heard.plugin) lists news cells cells_new (record { done = stepped.count; word = record { agreed = stepped.agreed; ended = e } })) lists news.written cells cells_new (record { done = stepped.count; word = record { agreed = stepped.agreed; ended = e } }))
           (sym c.told.ensures)
           (plugin_works rule stands old new lists news cells cells_new c.args.at news.written stepped.count stepped.agreed stepped.end may'
@@ -94,7 +100,7 @@ returns-then-is_empty-clause-work g c =
     plugin_works rule stands old old lists news cells cells c.args.at news.written 0 None Through may refl refl (omega arith)
     (ap (λ (l : List Cell). (apply_after (rule old.heard.plugin) lists.met l).cells) (sym none), ap (λ (l : List Cell). (apply_after (rule old.heard.plugin) lists.met l).ended) none)
     refl
-    lists.mark (subst (λ (h : List Cell). HeardStands rule stands old.heard h lists.mark) (sym same) may.goes_on.heard) may.mark
+    lists.mark (subst (λ (h : List Cell). HeardSince rule stands lists.from old.heard h lists.mark) (sym same) may.goes_on.heard) may.mark
     (λ some fine. absurd (omega (arith, some, ap (λ (l : List Cell). length l) none)))
     (record {
       tells = sym (newly_agreed-within c.args.at (agreement_of (rule old.heard.plugin) (lists.met ++ []))

@@ -1,0 +1,2 @@
+-- The definitions of a report that is printed while the run goes.
+pub mod LiveReports
