@@ -2,7 +2,8 @@
 use serde_json::Value;
 use std::alloc::AllocError;
 use ts_charsets::all_text_tables;
-use ts_fields::{Field, Kind};
+use ts_fields::{Field, Kind, Layout};
+use ts_json_tables::{short_layout_named, tot_fields};
 use ts_shown_pages::{layout_named, layout_of};
 use ts_table_pages::{
     bat_layout, cat_layout, eit_layout, nit_layout, pat_layout, pmt_layout, sdt_layout,
@@ -67,6 +68,14 @@ fn table_named(name: &str) -> Option<&'static TableLayout> {
     }
 }
 
+// The page of a descriptor, or of a table of the short form.
+fn page_named(name: &str) -> Option<&'static Layout> {
+    match layout_named(name) {
+        Some(page) => Some(page),
+        None => short_layout_named(name),
+    }
+}
+
 // The rows of an element that is an item of a table or of a descriptor.
 fn item_rows(parent: &str, name: &str) -> &'static [Field] {
     if let Some(table) = table_named(parent) {
@@ -76,7 +85,7 @@ fn item_rows(parent: &str, name: &str) -> &'static [Field] {
             }
         }
     }
-    if let Some(page) = layout_named(parent) {
+    if let Some(page) = page_named(parent) {
         if let Some(items) = page.items {
             if items.name == name {
                 return items.rows;
@@ -91,7 +100,10 @@ fn rows_of(place: Place<'_>) -> (&'static [Field], &'static [Field]) {
     if let Some(table) = table_named(place.name) {
         return (table.common, table.head);
     }
-    match layout_named(place.name) {
+    if place.name == "TOT" {
+        return (tot_fields(), &[]);
+    }
+    match page_named(place.name) {
         Some(page) => (page.head, &[]),
         None => (item_rows(place.parent, place.name), &[]),
     }
@@ -145,6 +157,9 @@ pub(crate) fn put_known_keys(text: &mut String, place: Place<'_>) -> Result<(), 
 
 // Whether descriptors may be in the element in which this one is.
 fn may_have_descriptors(place: Place<'_>) -> bool {
+    if place.parent == "TOT" {
+        return true;
+    }
     if let Some(table) = table_named(place.parent) {
         return table.loop_form != LoopForm::Absent;
     }
@@ -166,7 +181,7 @@ fn item_name(parent: &str) -> &'static str {
             return items.name;
         }
     }
-    if let Some(page) = layout_named(parent) {
+    if let Some(page) = page_named(parent) {
         if let Some(items) = page.items {
             return items.name;
         }
@@ -178,7 +193,7 @@ fn item_name(parent: &str) -> &'static str {
 pub(crate) fn put_known_elements(text: &mut String, place: Place<'_>) -> Result<(), AllocError> {
     if place.parent == "tsduck" {
         return text.push_str(
-            "known here: PAT CAT PMT NIT BAT SDT EIT generic_short_table generic_long_table\n",
+            "known here: PAT CAT PMT NIT BAT SDT EIT TDT RST TOT generic_short_table generic_long_table\n",
         );
     }
     let item = item_name(place.parent);

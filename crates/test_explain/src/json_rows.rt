@@ -153,7 +153,7 @@ fn table_key_rows() -> &'static [JsonRow] {
 
 // Unknown keys of descriptors, and where none are listed.
 fn descriptor_key_rows() -> &'static [JsonRow] {
-    static ROWS: [JsonRow; 3] = [
+    static ROWS: [JsonRow; 5] = [
         JsonRow {
             about: "an unknown key of a descriptor",
             path: &[0, 0],
@@ -175,6 +175,20 @@ fn descriptor_key_rows() -> &'static [JsonRow] {
             kind: JsonKind::UnknownKey,
             text: "{\"#name\":\"tsduck\",\"#nodes\":[{\"#name\":\"generic_short_table\",\"id\":1}]}",
         },
+        JsonRow {
+            about: "an unknown key of a TOT",
+            path: &[0],
+            key: "version",
+            kind: JsonKind::UnknownKey,
+            text: "{\"#name\":\"tsduck\",\"#nodes\":[{\"#name\":\"TOT\",\"UTC_time\":\"undefined\",\"version\":1}]}",
+        },
+        JsonRow {
+            about: "an unknown key of an event of an RST",
+            path: &[0, 0],
+            key: "duration",
+            kind: JsonKind::UnknownKey,
+            text: "{\"#name\":\"tsduck\",\"#nodes\":[{\"#name\":\"RST\",\"#nodes\":[{\"#name\":\"event\",\"duration\":\"01:00:00\"}]}]}",
+        },
     ];
     &ROWS
 }
@@ -187,7 +201,7 @@ fn table_name_rows() -> &'static [JsonRow] {
             path: &[1],
             key: "#name",
             kind: JsonKind::UnknownKey,
-            text: "{\"#name\":\"tsduck\",\"#nodes\":[{\"#name\":\"PAT\"},{\"#name\":\"TDT\"}]}",
+            text: "{\"#name\":\"tsduck\",\"#nodes\":[{\"#name\":\"PAT\"},{\"#name\":\"SIT\"}]}",
         },
         JsonRow {
             about: "an unknown element of a PAT",

@@ -71,8 +71,9 @@ fn the_first_fault_is_told(rt: HostRuntime) {
     }
 }
 
-/// Bytes and their texts: a PAT, a section of the short form with table_id 0x72, nothing, and the first two turned.
-static TEXTS: [(&[u8], &str); 4] = [
+/// Bytes and their texts: a PAT, a section of the short form with table_id 0x72, nothing, the first two turned, a TOT with a right
+/// CRC and with a wrong one, and an RST.
+static TEXTS: [(&[u8], &str); 7] = [
     (
         b"\x00\xB0\x0D\x00\x01\xC1\x00\x00\x00\x01\xF0\x00\x2A\xB1\x04\xB2",
         r##"{"#name":"tsduck","#nodes":[{"#name":"PAT","#nodes":[{"#name":"service","program_map_PID":4096,"service_id":1}],"current":true,"transport_stream_id":1,"version":0}]}"##,
@@ -83,13 +84,25 @@ static TEXTS: [(&[u8], &str); 4] = [
     ),
     (b"", r##"{"#name":"tsduck","#nodes":[]}"##),
     (
+        b"\x73\x70\x1A\xD6\x5B\x23\x31\x30\xF0\x0F\x58\x0D\x46\x52\x41\x02\x02\x00\xEC\xC2\x01\x00\x00\x01\x00\xBD\xD0\xD9\x44",
+        r##"{"#name":"tsduck","#nodes":[{"#name":"TOT","#nodes":[{"#name":"local_time_offset_descriptor","#nodes":[{"#name":"region","country_code":"FRA","country_region_id":0,"local_time_offset":200,"local_time_offset_polarity":0,"next_time_offset":100,"time_of_change":"2024-10-27 01:00:00"}]}],"UTC_time":"2009-02-13 23:31:30"}]}"##,
+    ),
+    (
+        b"\x73\x70\x1A\xD6\x5B\x23\x31\x30\xF0\x0F\x58\x0D\x46\x52\x41\x02\x02\x00\xEC\xC2\x01\x00\x00\x01\x00\xBD\xD0\xD9\x45",
+        r##"{"#name":"tsduck","#nodes":[{"#name":"generic_short_table","payload":"d65b233130f00f580d465241020200ecc20100000100bdd0d945","private":true,"table_id":115}]}"##,
+    ),
+    (
+        b"\x71\x70\x09\x27\x10\x9C\x40\x4E\x20\x75\x30\xF9",
+        r##"{"#name":"tsduck","#nodes":[{"#name":"RST","#nodes":[{"#name":"event","event_id":30000,"original_network_id":40000,"running_status":1,"service_id":20000,"transport_stream_id":10000}]}]}"##,
+    ),
+    (
         b"\x72\x70\x01\xAA\x00\xB0\x0D\x00\x01\xC1\x00\x00\x00\x01\xF0\x00\x2A\xB1\x04\xB2",
         r##"{"#name":"tsduck","#nodes":[{"#name":"generic_short_table","payload":"aa","private":true,"table_id":114},{"#name":"PAT","#nodes":[{"#name":"service","program_map_PID":4096,"service_id":1}],"current":true,"transport_stream_id":1,"version":0}]}"##,
     ),
 ];
 
 /// The bytes and their texts.
-fn texts() -> &'static [(&'static [u8], &'static str); 4] {
+fn texts() -> &'static [(&'static [u8], &'static str); 7] {
     &TEXTS
 }
 

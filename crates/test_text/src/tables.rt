@@ -38,7 +38,7 @@ fn again(rt: &(impl Abort + AllocGlobal), text: &str) -> Value {
 }
 
 /// Texts, and their canonical forms.
-static TEXTS: [(&str, &str); 8] = [
+static TEXTS: [(&str, &str); 11] = [
     (
         r##"{"#name":"PAT","transport_stream_id":1,"#nodes":[{"#name":"service","service_id":1,"program_map_PID":"0x1000"}]}"##,
         r##"{"#name":"PAT","#nodes":[{"#name":"service","program_map_PID":4096,"service_id":1}],"current":true,"transport_stream_id":1,"version":0}"##,
@@ -68,6 +68,18 @@ static TEXTS: [(&str, &str); 8] = [
         r##"{"#name":"generic_short_table","payload":"aa","private":true,"table_id":114}"##,
     ),
     (
+        r##"{"#name":"generic_short_table","table_id":112,"payload":"D65B233130"}"##,
+        r##"{"#name":"TDT","UTC_time":"2009-02-13 23:31:30"}"##,
+    ),
+    (
+        r##"{"#name":"RST","#nodes":[{"#name":"event","transport_stream_id":1,"original_network_id":8442,"service_id":769,"event_id":7,"running_status":4}]}"##,
+        r##"{"#name":"RST","#nodes":[{"#name":"event","event_id":7,"original_network_id":8442,"running_status":4,"service_id":769,"transport_stream_id":1}]}"##,
+    ),
+    (
+        r##"{"#name":"TOT","UTC_time":"undefined","reserved":0,"#nodes":[{"#name":"generic_descriptor","tag":200,"data":"DEAD"}]}"##,
+        r##"{"#name":"TOT","#nodes":[{"#name":"generic_descriptor","data":"dead","tag":200}],"UTC_time":"undefined","reserved":0}"##,
+    ),
+    (
         r##"{"#name":"generic_long_table","table_id":"0x4E","table_id_extension":1,"section_number":2,"last_section_number":3,"#nodes":[{"#name":"section","payload":"00"}]}"##,
         r##"{"#name":"generic_long_table","#nodes":[{"#name":"section","payload":"00"}],"current":true,"last_section_number":3,"private":true,"section_number":2,"table_id":78,"table_id_extension":1,"version":0}"##,
     ),
@@ -95,10 +107,26 @@ fn tables_come_back(rt: HostRuntime) {
 type Told<'a> = (Option<usize>, &'a str, JsonKind);
 
 /// Texts, and their first faults.
-static FAULTS: [(&str, Told<'static>); 9] = [
+static FAULTS: [(&str, Told<'static>); 13] = [
     (
         r##"{"#name":"PAD"}"##,
         (None, "#name", JsonKind::UnknownKey),
+    ),
+    (
+        r##"{"#name":"TDT","#nodes":[{"#name":"event"}]}"##,
+        (None, "UTC_time", JsonKind::Missing),
+    ),
+    (
+        r##"{"#name":"TOT","UTC_time":"2009-02-13 23:31:30","version":1}"##,
+        (None, "version", JsonKind::UnknownKey),
+    ),
+    (
+        r##"{"#name":"TOT","UTC_time":"2009-02-13 23:31:30","#nodes":[{"#name":"CA_descriptor","CA_PID":1,"CA_system_id":1},{"#name":"event"}]}"##,
+        (Some(1), "#name", JsonKind::UnknownKey),
+    ),
+    (
+        r##"{"#name":"RST","#nodes":[{"#name":"event","transport_stream_id":1,"original_network_id":1,"service_id":1,"event_id":1,"running_status":8}]}"##,
+        (Some(0), "running_status", JsonKind::OutOfRange),
     ),
     (
         r##"{"#name":"PAT","transport_stream_id":1,"#nodes":[{"#name":"service","service_id":0,"program_map_PID":1}]}"##,

@@ -1,6 +1,7 @@
 //! The tables that packets of the rows on editors carry.
 use crate::named_tables::NamedTable;
 use crate::network_tables::NetworkTable;
+use crate::time_tables::TimeTable;
 
 /// A PAT with the service 1 on PID 4096.
 static PAT: [u8; 16] = [
@@ -59,6 +60,8 @@ pub(crate) enum Carried {
     Named(NamedTable),
     /// One of a network or a bouquet, or an EIT section.
     Network(NetworkTable),
+    /// One of times and running states, of the short form.
+    Time(TimeTable),
 }
 
 impl Carried {
@@ -72,6 +75,7 @@ impl Carried {
             Carried::Nit => 16,
             Carried::Named(table) => table.pid(),
             Carried::Network(table) => table.pid(),
+            Carried::Time(table) => table.pid(),
         }
     }
 
@@ -88,6 +92,7 @@ impl Carried {
             Carried::Nit => &NIT,
             Carried::Named(table) => table.section(),
             Carried::Network(table) => table.section(),
+            Carried::Time(table) => table.section(),
         }
     }
 }

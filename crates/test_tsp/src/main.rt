@@ -46,6 +46,7 @@ mod stream_rows;
 mod table_rows;
 mod threads;
 mod time_rows;
+mod time_tables;
 mod trial;
 mod trial_desk;
 mod window_rows;

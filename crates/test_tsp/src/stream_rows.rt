@@ -1,6 +1,8 @@
 //! Rows on the contents of a stream: its PIDs, its services and its tables.
+use crate::carried::Carried;
 use crate::inputs::Input;
 use crate::row::Row;
+use crate::time_tables::TimeTable;
 use test_tools::ORDINARY;
 
 /// What `analyze` and `tables` report of null packets and of the generated stream.
@@ -8,7 +10,7 @@ pub(crate) fn rows() -> &'static [Row] {
     &STREAM_ROWS
 }
 
-static STREAM_ROWS: [Row; 5] = [
+static STREAM_ROWS: [Row; 6] = [
     Row {
         name: "null packets alone",
         words: "-I null 2 -P analyze -O drop",
@@ -37,6 +39,20 @@ static STREAM_ROWS: [Row; 5] = [
         name: "tables below the cut",
         words: "-I testgen 1 1000 -P tables --tid 2 -P until --packets 2 -O drop",
         input: Input::Pids(&[]),
+        plan: ORDINARY,
+    },
+    Row {
+        name: "a line for each TDT, TOT and RST, by its fields where it reads and a TOT's CRC is right",
+        words: "-I file in -P tables --pid 19,20 -O drop",
+        input: Input::Tables(&[
+            Carried::Time(TimeTable::Tdt),
+            Carried::Time(TimeTable::Tdt),
+            Carried::Time(TimeTable::UnmarkedTdt),
+            Carried::Time(TimeTable::Tot),
+            Carried::Time(TimeTable::WrongTot),
+            Carried::Time(TimeTable::TrailingTot),
+            Carried::Time(TimeTable::Rst),
+        ]),
         plan: ORDINARY,
     },
 ];

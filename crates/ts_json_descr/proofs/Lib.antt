@@ -1,6 +1,6 @@
-mod StepLemmas
+pub mod StepLemmas
 mod ItemLemmas
-mod BodyLemmas
-mod PageLemmas
-mod RoundLemmas
+pub mod BodyLemmas
+pub mod PageLemmas
+pub mod RoundLemmas
 mod Rows

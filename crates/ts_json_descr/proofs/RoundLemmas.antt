@@ -70,7 +70,8 @@ joined : (read : Reading Items) (i : Option (List ℕ × List Row)) (head : List
 joined (Ok nodes) i head items is = rw is refl
 joined (Err fault) i head items is = cc
 
-holding_again : Laws → (p : Page) (h : Holding) → rows_show p.head ≡ true → items_show p.items ≡ true
+-- the element of a body of a page is read as that body
+pub holding_again : Laws → (p : Page) (h : Holding) → rows_show p.head ≡ true → items_show p.items ≡ true
     → are_within p.head h.head ≡ true → page_fits p h ≡ true
     → read_holding p (element_members p.head p.name (items_shown p.items h.items) h.head) ≡ Ok h
 unfolding read_holding nodes_of

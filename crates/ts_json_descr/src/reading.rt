@@ -90,9 +90,9 @@ fn read_children(
     }
 }
 
-/// The values of an element of a page, whose name was checked before.
+/// The values of an element of a page, whose name was checked before, or the first fault of the element and its items.
 #[tactic(auto, unfolding(crate::specs::DescrReading::read_holding))]
-fn read_element_body(
+pub fn read_element_body(
     alloc: Global,
     layout: &Layout,
     members: &Map<String, Value>,

@@ -70,8 +70,8 @@ fn generic_values(alloc: Global, from: &Descriptor) -> Result<Vec<FieldValue>, A
     Ok(vec![in alloc; FieldValue::Number(tag), FieldValue::Bytes(body)]?)
 }
 
-/// The element of a body that a page reads.
-fn body_json(alloc: Global, layout: &Layout, body: &Body) -> Result<Value, AllocError>
+/// The element of a body that a page reads: its name is the page's.
+pub fn body_json(alloc: Global, layout: &Layout, body: &Body) -> Result<Value, AllocError>
     requires { page_fits (page layout.now) (body_held body.now) ≡ true }
     ensures { IfOk result (λ v. view v ≡ body_shown (page layout.now) (body_held body.now)) }
 {

@@ -1,22 +1,25 @@
 -- Children that are shown are read again.
 use Rattle.std.proofs.Common.{◌≡◌, ℕ, ◌+◌, ◌<◌, ◌≤◌, Bool, true, List, [], ◌∷◌, ◌++◌, length, refl}
-use Rattle.std.specs.Prelude.{Option, Ok, bytes_eq}
+use Rattle.std.specs.Prelude.{Option, Some, Ok, bytes_eq}
 use Rattle.std.proofs.lemmas.Slice.Eq.{bytes_eq-Decides}
 use Rattle.serde_json.specs.Data.{Data}
 use Rattle.serde_json.specs.Find.{get_member}
 use Rattle.serde_json.specs.View.{items_of}
 use Rattle.ts_bits.specs.TaggedBody.{TaggedBody}
 use Rattle.ts_fields.specs.Bits.{bits_of}
+use Rattle.ts_fields.specs.Bodies.{Holding, Page, page_exact, page_fits, read_page, spell_page}
 use Rattle.ts_fields.specs.Fitting.{are_bytes, fits}
 use Rattle.ts_fields.specs.Layout.{Row, Held}
 use Rattle.ts_jtree.specs.Attributes.{read_attributes}
 use Rattle.ts_jtree.specs.Elements.{keys_known, name_of, nodes_key}
 use Rattle.ts_jtree.specs.Faults.{Reading}
 use Rattle.ts_jtree.specs.Shown.{are_within, element_members, rows_show}
-use Rattle.ts_json_descr.specs.DescrElements.{descr_shown}
-use Rattle.ts_json_descr.specs.DescrReading.{descr_read}
+use Rattle.ts_json_descr.specs.DescrElements.{descr_shown, items_shown}
+use Rattle.ts_json_descr.specs.DescrReading.{descr_read, read_holding}
+use Rattle.ts_json_descr.proofs.PageLemmas.{items_show}
 use Rattle.ts_table_rows.specs.BodySpelling.{bytes_of}
 use Rattle.ts_json_tables.specs.TableReading.{read_each}
+use Rattle.ts_json_tables.proofs.ShortLemmas.{OffsetLaws}
 
 -- what the laws of elements, descriptors and bits say, by the contracts of the crates below
 pub record Laws : Type 0 where
@@ -26,6 +29,9 @@ pub record Laws : Type 0 where
   pub children : (rs : List Row) (called : List ℕ) (nodes : Option Data) (values : List Held) → rows_show rs ≡ true → get_member nodes_key (element_members rs called nodes values) ≡ nodes
   pub descr : (d : TaggedBody) → d.tag < 256 → are_bytes d.body ≡ true → length d.body ≤ 255 → descr_read (descr_shown d) ≡ Ok (d.tag, bits_of d.body)
   pub bytes : (row : List ℕ) (bits : List Bool) → are_bytes row ≡ true → bits_of row ≡ bits → row ≡ bytes_of bits
+  pub written : (p : Page) (from : List Bool) (h : Holding) → page_exact p ≡ true → read_page p from ≡ Some h → (from ≡ spell_page p h) × (page_fits p h ≡ true)
+  pub holding : (p : Page) (h : Holding) → rows_show p.head ≡ true → items_show p.items ≡ true → are_within p.head h.head ≡ true → page_fits p h ≡ true → read_holding p (element_members p.head p.name (items_shown p.items h.items) h.head) ≡ Ok h
+  pub offsets : OffsetLaws
 
 -- each element is read as its value
 abbrev pub AllRead : {A : Type 0} → (Data → Reading A) → List Data → List A → Type 0

@@ -22,6 +22,9 @@ mod RunLemmas
 mod ValueLemmas
 mod AgainLemmas
 mod RoundLemmas
+mod ShortLemmas
+mod ShortValid
+mod ShortRound
 mod RoundHead
 mod RoundEnd
 mod PlainLemmas
@@ -35,3 +38,4 @@ mod ToldLong
 mod ToldLaid
 mod KeptRuns
 mod ReadBytes
+mod ShortRows

@@ -42,7 +42,7 @@ then_run : {A B P : Type 0} (r : Result A FirstBroken) (next : A → Result B Fi
 then_run (Ok x) next y is goal = goal x refl is
 then_run (Err fault) next y is goal = cc
 
-then_some : {A B P : Type 0} (o : Option A) (next : A → Option B) (y : B) → (fields.◌>>=◌ o next) ≡ Some y
+pub then_some : {A B P : Type 0} (o : Option A) (next : A → Option B) (y : B) → (fields.◌>>=◌ o next) ≡ Some y
     → ((x : A) → o ≡ Some x → next x ≡ Some y → P) → P
 then_some (Some x) next y is goal = goal x refl is
 then_some None next y is goal = cc
@@ -60,7 +60,7 @@ uncut (Err offset) left ds is = cc
 
 -- ---- descriptors
 
-abbrev AllDescriptors : List TaggedBody → Type 0
+abbrev pub AllDescriptors : List TaggedBody → Type 0
 AllDescriptors ds = All (λ d. IsDescriptor d) ds
 
 abbrev AllDescribed : List ItemHolding → Type 0
@@ -71,7 +71,7 @@ bytes_all row is =
     All-weaker (λ x. nat_lt x 256 ≡ true) (λ x. x < 256) (λ x small. ltb-true x 256 small) row
     (AllPass-from_list_all (λ x. nat_lt x 256) row is)
 
-described : (ds : List TaggedBody) → are_bytes (loop_bytes ds) ≡ true → AllDescriptors ds
+pub described : (ds : List TaggedBody) → are_bytes (loop_bytes ds) ≡ true → AllDescriptors ds
 described [] is = All-nil (λ d. IsDescriptor d)
 described (d ∷ ds) is =
     let tag = and_parts (nat_lt d.tag 256) (are_bytes (length d.body ∷ (d.body ++ loop_bytes ds))) is in

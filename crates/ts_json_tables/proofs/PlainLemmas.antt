@@ -1,6 +1,6 @@
 -- Elements have only whole numbers, and are not deep.
 use Rattle.std.proofs.Common.{◌≡◌, ℕ, suc, ◌≤◌, Bool, true, false, ◌||◌, List, [], ◌∷◌, ◌++◌, map, refl, arith, Ordering, Less, Equal, Greater}
-use Rattle.std.specs.Prelude.{Option, Some, None, if◌then◌else◌}
+use Rattle.std.specs.Prelude.{Option, Some, None, nat_eq, if◌then◌else◌}
 use Rattle.std.specs.Ordering.{nat_cmp, match_ordering}
 use Rattle.std.specs.Cmp.Lexicographic.{slice_cmp}
 use Rattle.std.proofs.lemmas.Bool.{or_from, or_parts}
@@ -10,7 +10,8 @@ use Rattle.serde_json.specs.Written.{has_float, items_have_float, members_have_f
 use Rattle.ts_bits.specs.TaggedBody.{TaggedBody}
 use Rattle.ts_fields.specs.declared.field.Kind.{Kind}
 use Rattle.ts_fields.specs.declared.field.Kind.TheVariants as kinds
-use Rattle.ts_fields.specs.Bodies.{Page, Holding}
+use Rattle.ts_fields.specs.Bits.{bits_of}
+use Rattle.ts_fields.specs.Bodies.{Page, Holding, read_page}
 use Rattle.ts_fields.specs.Layout as rows
 use Rattle.ts_fields.specs.Layout.{Row, Held}
 use Rattle.ts_fields.specs.Spelling.{holds}
@@ -21,8 +22,10 @@ use Rattle.ts_json_descr.specs.DescrElements as descrs
 use Rattle.ts_json_descr.specs.DescrElements.{body_shown, descr_shown, generic_rows, generic_name, shown_by, typed}
 use Rattle.ts_table_rows.specs.TablePages.{ItemPage, TablePage}
 use Rattle.ts_table_rows.specs.TableValues.{ItemHolding, BodyHolding}
-use Rattle.ts_json_tables.specs.HeldTables.{TableValue, laid, short, long}
-use Rattle.ts_json_tables.specs.TableElements.{children_shown, described_shown, descrs_shown, item_shown, items_shown, section_shown, shown_items, table_shown}
+use Rattle.ts_json_tables.specs.HeldTables.{ShortHolding, TableValue, laid, short, long}
+use Rattle.ts_json_tables.specs.TableElements.{children_shown, described_shown, descrs_shown, generic_shown, item_shown, items_shown, paged_shown, read_shown, section_shown, short_shown, shown_items, table_shown, tot_or_bytes}
+use Rattle.ts_json_tables.specs.ShortPages.{short_page_of}
+use Rattle.ts_json_tables.specs.TimeOffsets.{OffsetHolding, tot_id, tot_of}
 use Rattle.std.specs.Prelude.{slice_get, drop}
 
 -- a value without floats, of at most this depth; a row of values, and members
@@ -203,9 +206,34 @@ children_plain p b =
     (both_plain 5 (descrs_shown b.descriptors) (items_shown p.items (shown_items p.one_zero b.items))
     (each_plain 5 descr_shown (descr_plain 2) b.descriptors) (items_plain p.items (shown_items p.one_zero b.items)))
 
+generic_plain : (s : ShortHolding) → IsPlain 7 (generic_shown s)
+generic_plain s = element_plain 6 _ _ None _ tt
+
+tot_plain : (o : Option OffsetHolding) (s : ShortHolding) → IsPlain 7 (tot_or_bytes o s)
+tot_plain None s = generic_plain s
+tot_plain (Some t) s =
+    element_plain 6 _ _ (Some (array (items_of (descrs_shown t.descriptors)))) _
+    (array_plain 5 (descrs_shown t.descriptors) (each_plain 5 descr_shown (descr_plain 2) t.descriptors))
+
+read_plain : (p : Page) (o : Option Holding) (s : ShortHolding) → IsPlain 7 (read_shown p o s)
+read_plain p None s = generic_plain s
+read_plain p (Some h) s = body_plain 4 p h (own_nodes 4 p.items h.items)
+
+paged_plain : (o : Option Page) (s : ShortHolding) → IsPlain 7 (paged_shown o s)
+paged_plain None s = generic_plain s
+paged_plain (Some p) s = read_plain p (read_page p (bits_of s.payload)) s
+
+short_plain : (s : ShortHolding) → IsPlain 7 (short_shown s)
+short_plain s = go s.own (nat_eq s.table_id tot_id)
+  where
+    go : (a b : Bool) → IsPlain 7 (if a then (if b then tot_or_bytes (tot_of s.payload) s else paged_shown (short_page_of s.table_id) s) else generic_shown s)
+    go true true = tot_plain (tot_of s.payload) s
+    go true false = paged_plain (short_page_of s.table_id) s
+    go false b = generic_plain s
+
 pub table_plain : (t : TableValue) → IsPlain 7 (table_shown t)
 table_plain (laid p t) = element_plain 6 _ p.name (Some (array (items_of (children_shown p t.body)))) _ (children_plain p t.body)
-table_plain (short s) = element_plain 6 _ _ None _ tt
+table_plain (short s) = short_plain s
 table_plain (long l) =
     element_plain 6 _ _ (Some (array (items_of (map section_shown l.payloads)))) _
     (array_plain 5 (map section_shown l.payloads) (each_plain 5 section_shown (λ row. element_plain 4 _ _ None _ tt) l.payloads))

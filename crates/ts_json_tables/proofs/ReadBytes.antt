@@ -35,13 +35,14 @@ use Rattle.ts_json_tables.specs.HeadReading.{names_eit, names_network, only_byte
 use Rattle.ts_json_tables.specs.HeldTables.{TableValue, laid}
 use Rattle.ts_json_tables.specs.KnownPages.{page_named}
 use Rattle.ts_json_tables.specs.ValidTables.{IsOfBytes, IsTable}
-use Rattle.ts_json_tables.specs.TableReading.{has_own, holding_of, parted, read_by_name, read_child, read_descr, read_described, read_each, read_item, read_laid, read_long, read_long_head, read_named, read_own, read_section, read_short, sections_counted, table_read}
+use Rattle.ts_json_tables.specs.TableReading.{has_own, holding_of, parted, read_by_name, read_child, read_descr, read_described, read_each, read_item, read_known, read_laid, read_long, read_long_head, read_named, read_own, read_section, read_short, sections_counted, table_read}
 use Rattle.ts_json_tables.proofs.ValidEnd.{name_valid}
 use Rattle.ts_json_tables.proofs.ValidLemmas.{data_small, first_of}
 use Rattle.ts_json_tables.proofs.MadeBodies.{Spelled, bytes_length}
 use Rattle.ts_json_tables.proofs.MadeSections.{small_bytes}
 use Rattle.ts_json_tables.proofs.NumberLemmas.{number_small}
 use Rattle.ts_json_tables.proofs.ReadLemmas.{each_all}
+use Rattle.ts_json_tables.proofs.ShortValid.{short_named_bytes}
 use Rattle.ts_json_tables.proofs.StepLemmas.{both, child_ok, same_ok, then_ok}
 
 -- ---- hexadecimal digits write bytes
@@ -346,14 +347,14 @@ laid_bytes law p ms t is =
 named_bytes : Spelled → (name : List ℕ) (ms : Members) (t : TableValue) → read_by_name name ms ≡ Ok t → IsOfBytes t
 named_bytes law name ms t is = go (bytes_eq name short_name) (bytes_eq name long_name) is
   where
-    typed : (o : Option TablePage) → (or_refuse o name_key UnknownKey >>= λ p. read_laid p ms) ≡ Ok t → IsOfBytes t
-    typed None read = cc
-    typed (Some p) read = laid_bytes law p ms t read
+    known : (o : Option TablePage) → read_known o name ms ≡ Ok t → IsOfBytes t
+    known None read = short_named_bytes law name ms t read
+    known (Some p) read = laid_bytes law p ms t read
 
-    go : (a b : Bool) → (if a then read_short ms else if b then read_long ms else (or_refuse (page_named name) name_key UnknownKey >>= λ p. read_laid p ms)) ≡ Ok t → IsOfBytes t
+    go : (a b : Bool) → (if a then read_short ms else if b then read_long ms else read_known (page_named name) name ms) ≡ Ok t → IsOfBytes t
     go true b read = short_bytes ms t read
     go false true read = long_bytes ms t read
-    go false false read = typed (page_named name) read
+    go false false read = known (page_named name) read
 
 pub read_valid : Spelled → (value : Data) (t : TableValue) → table_read value ≡ Ok t → IsTable t × IsOfBytes t
 unfolding table_read

@@ -38,6 +38,7 @@ use Rattle.ts_json_tables.proofs.RoundHead.{Network, extension_again, key_absent
 use Rattle.ts_json_tables.proofs.RoundLemmas.{children_again}
 use Rattle.ts_json_tables.proofs.RowLemmas.{fits_count, plain, plain_within, split_read}
 use Rattle.ts_json_tables.proofs.SectionLemmas.{LongFacts, long_facts}
+use Rattle.ts_json_tables.proofs.ShortRound.{short_read_again}
 use Rattle.ts_json_tables.proofs.ShowLemmas.{element_fits, first_fit, id_fit, kept_fit, truth_small}
 use Rattle.ts_json_tables.proofs.StepLemmas.{both}
 use Rattle.ts_json_tables.proofs.TruthLemmas.{number_again, truth_read}
@@ -305,7 +306,7 @@ table_again laws (laid p t) is well =
     rw (laws.name (element_rows p b) p.name (Some (array (items_of (children_shown p t.body)))) (element_values p t) (facts.shows b), facts.no_short, facts.no_long, is.known)
     (laid_again laws p t is well facts)
 table_again laws (short s) is small =
-    rw (laws.name short_rows short_name None (short_values s) refl) (short_again laws s is small)
+    short_read_again laws s is small (rw (laws.name short_rows short_name None (short_values s) refl) (short_again laws s is small))
 table_again laws (long l) is small =
     rw (laws.name (long_rows (is_eit_id l.table_id)) long_name (Some (array (items_of (map section_shown l.payloads)))) (long_values l) (long_show (is_eit_id l.table_id)))
     (long_again laws l is small)

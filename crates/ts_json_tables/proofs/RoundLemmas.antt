@@ -33,7 +33,7 @@ use Rattle.ts_json_tables.proofs.StepLemmas.{both, then_ok}
 pub descr_again : Laws → (d : TaggedBody) → IsDescriptor d → read_descr (descr_shown d) ≡ Ok d
 descr_again laws d s = descr_told laws.bytes (descr_shown d) d s.bytes (laws.descr d s.tag (all_bytes d.body s.bytes) s.room)
 
-descrs_again : Laws → (ds : List TaggedBody) → All (λ d. IsDescriptor d) ds → AllRead read_descr (descrs_shown ds) ds
+pub descrs_again : Laws → (ds : List TaggedBody) → All (λ d. IsDescriptor d) ds → AllRead read_descr (descrs_shown ds) ds
 descrs_again laws [] all = tt
 descrs_again laws (d ∷ ds) all =
     (descr_again laws d (All-head (λ x. IsDescriptor x) d ds all), descrs_again laws ds (All-tail (λ x. IsDescriptor x) d ds all))

@@ -8,10 +8,9 @@ use Rattle.serde_json.specs.Data.{Members}
 use Rattle.ts_fields.specs.Fitting.{fits}
 use Rattle.ts_fields.specs.Layout.{Held}
 use Rattle.ts_jtree.specs.declared.fault.ReadRefusal.{ReadRefusal}
-use Rattle.ts_jtree.specs.declared.fault.JsonKind.TheVariants.{UnknownKey}
 use Rattle.ts_jtree.specs.Attributes.{read_attributes}
-use Rattle.ts_jtree.specs.Elements.{keys_known, name_key, nodes_of}
-use Rattle.ts_jtree.specs.Faults.{Answers, Reading, or_refuse, ◌>>=◌}
+use Rattle.ts_jtree.specs.Elements.{keys_known, nodes_of}
+use Rattle.ts_jtree.specs.Faults.{Answers, Reading, ◌>>=◌}
 use Rattle.ts_table_pages.specs.PsiPages.{entry_page}
 use Rattle.ts_table_rows.specs.BodySpelling.{held_count}
 use Rattle.ts_table_rows.specs.TableFitting.{head_fits, items_fit, own_fit, values_fit}
@@ -25,9 +24,10 @@ use Rattle.ts_json_tables.specs.HeldTables.{TableValue, laid, table_value}
 use Rattle.ts_json_tables.specs.KnownPages.{page_named}
 use Rattle.ts_json_tables.specs.ValidTables.{IsLaid, IsTable, items_within}
 use Rattle.ts_json_tables.specs.RunTables.{settled_extension}
-use Rattle.ts_json_tables.specs.TableReading.{has_own, holding_of, parted, read_by_name, read_child, read_each, read_laid, read_long, read_short}
+use Rattle.ts_json_tables.specs.TableReading.{has_own, holding_of, parted, read_by_name, read_child, read_each, read_known, read_laid, read_long, read_short}
 use Rattle.ts_json_tables.proofs.EntryLemmas.{Settled, settled_free, settled_none, settled_some}
 use Rattle.ts_json_tables.proofs.KnownLemmas.{Facts, named_facts}
+use Rattle.ts_json_tables.proofs.ShortValid.{short_named_valid}
 use Rattle.ts_json_tables.proofs.ValidLemmas.{ItemsGood, child_good, items_good, kept_good, long_valid, own_good_fit, short_valid, thing_good}
 use Rattle.ts_json_tables.proofs.NumberLemmas.{number_bounded}
 use Rattle.ts_json_tables.proofs.ReadLemmas.{each_all, read_good}
@@ -139,14 +139,14 @@ laid_valid p ms t facts is =
 pub name_valid : (name : List ℕ) (ms : Members) (t : TableValue) → read_by_name name ms ≡ Ok t → IsTable t
 name_valid name ms t is = go (bytes_eq name short_name) (bytes_eq name long_name) is
   where
-    typed : (o : Option TablePage) → page_named name ≡ o → (or_refuse o name_key UnknownKey >>= λ p. read_laid p ms) ≡ Ok t → IsTable t
-    typed None at read = cc
-    typed (Some p) at read = laid_valid p ms t (named_facts name p at) read
+    known : (o : Option TablePage) → page_named name ≡ o → read_known o name ms ≡ Ok t → IsTable t
+    known None at read = short_named_valid name ms t read
+    known (Some p) at read = laid_valid p ms t (named_facts name p at) read
 
-    go : (a b : Bool) → (if a then read_short ms else if b then read_long ms else (or_refuse (page_named name) name_key UnknownKey >>= λ p. read_laid p ms)) ≡ Ok t → IsTable t
+    go : (a b : Bool) → (if a then read_short ms else if b then read_long ms else read_known (page_named name) name ms) ≡ Ok t → IsTable t
     go true b read = short_valid ms t read
     go false true read = long_valid ms t read
-    go false false read = typed (page_named name) refl read
+    go false false read = known (page_named name) refl read
 
 pub answer_valid : (result : Result Table ReadRefusal) (read : Reading TableValue) → Answers table_value result read
     → ((t : TableValue) → read ≡ Ok t → IsTable t) → IfOk result (λ t. IsTable (table_value t))

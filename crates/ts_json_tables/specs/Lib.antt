@@ -2,6 +2,8 @@
 pub mod KnownPages
 pub mod HeldTables
 pub mod ElementRows
+pub mod ShortPages
+pub mod TimeOffsets
 pub mod TableElements
 pub mod HeadReading
 pub mod TableReading

@@ -1,14 +1,16 @@
 -- Tables as JSON elements.
 -- This project's own rule: the attributes of `ElementRows`, and as children the table's descriptors and then its items;
 -- a first entry with number 0 is an attribute. Bytes are lower case hexadecimal digits.
-use Rattle.std.specs.Prelude.{ℕ, ◌&&◌, List, [], ◌∷◌, ◌++◌, map, drop, Bool, true, false, nat_eq, if◌then◌else◌, Option, Some, None}
+use Rattle.std.specs.Prelude.{ℕ, ◌&&◌, List, [], ◌∷◌, ◌++◌, codes, map, drop, Bool, true, false, nat_eq, if◌then◌else◌, Option, Some, None}
 use Rattle.serde_json.specs.Data.{Data, object, array}
 use Rattle.serde_json.specs.View.{items_of}
 use Rattle.ts_bits.specs.TaggedBody.{TaggedBody}
+use Rattle.ts_fields.specs.Bits.{bits_of}
+use Rattle.ts_fields.specs.Bodies.{Holding, Page, read_page}
 use Rattle.ts_fields.specs.Layout.{Held, number, bytes}
 use Rattle.ts_jtree.specs.Numbers.{truth_bit}
 use Rattle.ts_jtree.specs.Shown.{element_members}
-use Rattle.ts_json_descr.specs.DescrElements.{descr_shown}
+use Rattle.ts_json_descr.specs.DescrElements.{body_shown, descr_shown}
 use Rattle.ts_table_rows.specs.declared.table.TableHead.{TableHead}
 use Rattle.ts_table_rows.specs.TablePages.{ItemPage, TablePage}
 use Rattle.ts_table_rows.specs.TableValues.{ItemHolding, BodyHolding, TableHolding}
@@ -16,6 +18,8 @@ use Rattle.ts_table_rows.specs.BodyReading.{first_number, is_zero}
 use Rattle.ts_table_rows.specs.BodySpelling.{common_values, head_values}
 use Rattle.ts_json_tables.specs.ElementRows.{element_rows, is_eit_id, long_name, long_rows, section_name, section_rows, short_name, short_rows}
 use Rattle.ts_json_tables.specs.HeldTables.{ShortHolding, LongHolding, TableValue, laid, short, long}
+use Rattle.ts_json_tables.specs.ShortPages.{short_page_of}
+use Rattle.ts_json_tables.specs.TimeOffsets.{OffsetHolding, tot_id, tot_of, tot_rows}
 
 -- a Boolean as a field holds it
 abbrev pub truth : Bool → Held
@@ -99,9 +103,39 @@ laid_shown p t = object (element_members (element_rows p (begins_with_zero p.one
 abbrev pub short_values : ShortHolding → List Held
 short_values s = number s.table_id ∷ truth s.own ∷ bytes s.payload ∷ []
 
--- the element of a section of the short form
+-- the element of a section of the short form that is given by its bytes
+abbrev pub generic_shown : ShortHolding → Data
+generic_shown s = object (element_members short_rows short_name None (short_values s))
+
+-- the element of a section that a page reads, or does not
+abbrev pub read_shown : Page → Option Holding → ShortHolding → Data
+read_shown p None s = generic_shown s
+read_shown p (Some h) s = body_shown p h
+
+-- the element of a section whose table_id may have a page
+abbrev pub paged_shown : Option Page → ShortHolding → Data
+paged_shown None s = generic_shown s
+paged_shown (Some p) s = read_shown p (read_page p (bits_of s.payload)) s
+
+-- the element name of a TOT
+abbrev pub tot_name : List ℕ
+tot_name = codes "TOT"
+
+-- the element of a TOT
+abbrev pub tot_shown : OffsetHolding → Data
+tot_shown t = object (element_members tot_rows tot_name (Some (array (items_of (descrs_shown t.descriptors)))) t.values)
+
+-- the element of a section that is a TOT, or is not
+abbrev pub tot_or_bytes : Option OffsetHolding → ShortHolding → Data
+tot_or_bytes None s = generic_shown s
+tot_or_bytes (Some t) s = tot_shown t
+
+-- the element of a section of the short form: of a TOT or a page exactly where its private bit is 1, as those of DVB are,
+-- and its bytes read so
 abbrev pub short_shown : ShortHolding → Data
-short_shown s = object (element_members short_rows short_name None (short_values s))
+short_shown s =
+    if s.own then (if nat_eq s.table_id tot_id then tot_or_bytes (tot_of s.payload) s else paged_shown (short_page_of s.table_id) s)
+    else generic_shown s
 
 -- the element of a section's body
 abbrev pub section_shown : List ℕ → Data

@@ -1,14 +1,15 @@
 -- Tables from JSON elements.
 -- This project's own rule: an element is checked step by step, and then its children in their order, descriptors and
 -- items as they come; the fault of a child has the child's number, from 0, in its path.
-use Rattle.std.specs.Prelude.{ℕ, ◌+◌, ◌&&◌, List, [], ◌∷◌, ◌++◌, Bool, true, false, bytes_eq, nat_eq, nat_le, if◌then◌else◌, Option, Some, None, Ok}
+use Rattle.std.specs.Prelude.{ℕ, ◌+◌, ◌&&◌, List, [], ◌∷◌, ◌++◌, Bool, true, false, bytes_eq, length, nat_eq, nat_le, nat_lt, if◌then◌else◌, Option, Some, None, Ok}
 use Rattle.serde_json.specs.Data.{Data, Items, no_items, item, Members}
 use Rattle.ts_bits.specs.TaggedBody.{TaggedBody}
 use Rattle.ts_jtree.specs.declared.fault.JsonKind.TheVariants.{UnknownKey, OutOfRange}
 use Rattle.ts_jtree.specs.Attributes.{read_attributes}
 use Rattle.ts_jtree.specs.Elements.{name_key, nodes_key, members_of, name_of, named, keys_known, nodes_of, no_children}
 use Rattle.ts_jtree.specs.Faults.{Reading, refuse, or_refuse, at_child, ◌>>=◌}
-use Rattle.ts_json_descr.specs.DescrReading.{descr_read}
+use Rattle.ts_fields.specs.Bodies.{Page, spell_page}
+use Rattle.ts_json_descr.specs.DescrReading.{descr_read, read_holding}
 use Rattle.ts_table_rows.specs.declared.layout.LoopForm.{LoopForm}
 use Rattle.ts_table_rows.specs.declared.layout.LoopForm.TheVariants.{Absent, Counted, ToEnd}
 use Rattle.ts_table_rows.specs.TablePages.{ItemPage, TablePage}
@@ -22,6 +23,9 @@ use Rattle.ts_json_tables.specs.ElementRows.{current_row, element_rows, extensio
 use Rattle.ts_json_tables.specs.HeadReading.{Heading, names_eit, names_network, read_bytes, read_heading, read_kept, read_number, read_truth}
 use Rattle.ts_json_tables.specs.HeldTables.{LongHolding, TableValue, laid, short, long}
 use Rattle.ts_json_tables.specs.KnownPages.{page_named}
+use Rattle.ts_json_tables.specs.ShortPages.{short_page_named}
+use Rattle.ts_json_tables.specs.TableElements.{tot_name}
+use Rattle.ts_json_tables.specs.TimeOffsets.{OffsetHolding, offset_payload, tot_id, tot_rows}
 use Rattle.std.specs.Prelude.{codes}
 
 -- children one after another, the first of which has this number
@@ -187,14 +191,56 @@ read_long ms = do
   payloads ← read_each read_section 0 counted
   Ok (long (with_payloads head payloads))
 
+-- a section of the short form with these bytes after section_length, of which there are at most 4093
+abbrev pub sized_short : ℕ → List ℕ → Reading TableValue
+sized_short id payload =
+    if nat_lt 4093 (length payload) then refuse nodes_key OutOfRange
+    else Ok (short (record { table_id = id; own = true; payload = payload }))
+
+-- a table of a page of the short form, whose name was checked before
+unfoldable pub read_paged : Page → Members → Reading TableValue
+read_paged p ms = do
+  h ← read_holding p ms
+  sized_short p.tag (bytes_of (spell_page p h))
+
+-- the fields and the descriptors of a TOT, whose name was checked before
+unfoldable pub read_tot_element : Members → Reading OffsetHolding
+read_tot_element ms = do
+  _ ← keys_known tot_rows ms ms
+  values ← read_attributes tot_rows ms
+  nodes ← nodes_of ms
+  ds ← read_each read_descr 0 nodes
+  Ok (record { values = values; descriptors = ds })
+
+-- a TOT of its fields and its descriptors
+abbrev pub sized_tot : OffsetHolding → Reading TableValue
+sized_tot t = sized_short tot_id (offset_payload t)
+
+-- a TOT, whose name was checked before
+unfoldable pub read_tot : Members → Reading TableValue
+read_tot ms = do
+  t ← read_tot_element ms
+  sized_tot t
+
+-- a table of the short form with this name
+abbrev pub read_short_named : List ℕ → Members → Reading TableValue
+read_short_named name ms =
+    if bytes_eq name tot_name then read_tot ms
+    else (do
+      p ← or_refuse (short_page_named name) name_key UnknownKey
+      read_paged p ms)
+
+-- a table with this name, which is not one given by its bytes
+abbrev pub read_known : Option TablePage → List ℕ → Members → Reading TableValue
+read_known None name ms = read_short_named name ms
+read_known (Some p) name ms = read_laid p ms
+
 -- a table with this name
 abbrev pub read_by_name : List ℕ → Members → Reading TableValue
 read_by_name name ms =
     if bytes_eq name short_name then read_short ms
     else if bytes_eq name long_name then read_long ms
-    else (do
-      p ← or_refuse (page_named name) name_key UnknownKey
-      read_laid p ms)
+    else read_known (page_named name) name ms
 
 -- the table of an element, or the first fault of the element and its children
 unfoldable pub table_read : Data → Reading TableValue

@@ -46,7 +46,7 @@ fn read_descr_at(alloc: Global, place: usize, value: &Value) -> Result<Descripto
 }
 
 /// Descriptors, each of them a child.
-fn read_descrs(alloc: Global, nodes: &[Value]) -> Result<Vec<Descriptor>, ReadRefusal>
+pub fn read_descrs(alloc: Global, nodes: &[Value]) -> Result<Vec<Descriptor>, ReadRefusal>
     ensures { Answers (λ v. v.items) result
         (read_each TableReading.read_descr 0 (items_view nodes.now)) }
 {

@@ -21,7 +21,7 @@ use ts_jtree::{element_json, fit_is_shown};
 use ts_table_rows::{ItemForm, TableBody, TableItem, TableLayout};
 
 /// The elements of descriptors.
-fn descrs_json(alloc: Global, descriptors: &[Descriptor]) -> Result<Vec<Value>, AllocError>
+pub fn descrs_json(alloc: Global, descriptors: &[Descriptor]) -> Result<Vec<Value>, AllocError>
     ensures { IfOk result (λ v. map view v.items ≡ descrs_shown descriptors.now) }
 {
     let mut nodes = Vec::new(alloc);

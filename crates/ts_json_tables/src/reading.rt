@@ -20,6 +20,7 @@ use crate::rows::{
     ANY_EXTENSION, ANY_TABLE_ID, CURRENT, PRIVATE, SHORT_PAYLOAD, VERSION, element_rows, long_rows,
     short_rows,
 };
+use crate::short_reading::read_short_named;
 use crate::table::{LaidTable, LongTable, ShortTable, Table};
 use serde_json::{Map, Value};
 use std::alloc::{AllocError, Global};
@@ -189,7 +190,8 @@ fn read_named(alloc: Global, name: &str, members: &Map<String, Value>) -> Result
         return Ok(Table::Long(table));
     }
     let Some(layout) = layout_named(name) else {
-        return Err(refuse_key(alloc, "#name", JsonKind::UnknownKey));
+        let table = read_short_named(alloc, name, members)?;
+        return Ok(Table::Short(table));
     };
     let table = read_laid(alloc, layout, members)?;
     Ok(Table::Laid(table))

@@ -5,15 +5,16 @@ ghost use Rattle.serde_json.specs.View.{view};
 ghost use Rattle.ts_fields.specs.Layout.{rows_of, held};
 ghost use Rattle.ts_table_rows.specs.TablePages.{table_page};
 ghost use Rattle.ts_table_rows.specs.TableValues.{table_held};
-ghost use Rattle.ts_json_tables.specs.HeldTables.{long_held, short_held, table_value};
+ghost use Rattle.ts_json_tables.specs.HeldTables.{long_held, table_value};
 ghost use Rattle.ts_json_tables.specs.ValidTables;
 ghost use Rattle.ts_json_tables.specs.ValidTables.{IsLaid, IsTable};
-ghost use Rattle.ts_json_tables.specs.TableElements.{laid_shown, long_shown, short_shown, table_shown};
+ghost use Rattle.ts_json_tables.specs.TableElements.{laid_shown, long_shown, table_shown};
 
 use crate::items::{children_json, sections_json};
-use crate::rows::{element_rows, long_rows, short_rows};
-use crate::table::{LaidTable, LongTable, ShortTable, Table};
-use crate::values::{begins_with_zero, element_values, is_eit_id, long_values, short_values};
+use crate::rows::{element_rows, long_rows};
+use crate::short_showing::short_json;
+use crate::table::{LaidTable, LongTable, Table};
+use crate::values::{begins_with_zero, element_values, is_eit_id, long_values};
 use serde_json::Value;
 use std::alloc::{AllocError, Global};
 use ts_jtree::{element_json, fit_is_shown};
@@ -37,14 +38,6 @@ fn laid_json(alloc: Global, table: &LaidTable) -> Result<Value, AllocError>
         &values,
         Some(Value::Array(nodes)),
     )
-}
-
-/// The element of a section of the short form.
-fn short_json(alloc: Global, table: &ShortTable) -> Result<Value, AllocError>
-    ensures { IfOk result (λ v. view v ≡ short_shown (short_held table.now)) }
-{
-    let values = short_values(alloc, table)?;
-    element_json(alloc, "generic_short_table", &short_rows(), &values, None)
 }
 
 /// The element of sections of the long form.

@@ -13,7 +13,7 @@ ghost use Rattle.ts_json_tables.specs.TableReading.{table_read};
 ghost use Rattle.ts_json_tables.specs.ToldTables.{IsKept, TellsTable, told_again};
 
 use ts_bits::loops_are_whole_or_cut;
-use ts_fields::{length_of_bits, read_bytes_are_spelled};
+use ts_fields::{length_of_bits, length_of_read_rows, read_bytes_are_spelled, read_is_written};
 use ts_json_descr::shown_descr_is_read;
 use ts_jtree::element_shows;
 use ts_section::made_sections_are_valid;
@@ -26,6 +26,11 @@ pub fn shown_table_is_read()
     element_shows();
     shown_descr_is_read();
     written_rows_are_whole();
+    length_of_bits();
+    length_of_read_rows();
+    loops_are_whole_or_cut();
+    read_bytes_are_spelled();
+    read_is_written();
 }
 
 /// The element of a table has only whole numbers and is at most seven arrays and objects deep, so that `serde_json`

@@ -4,7 +4,7 @@ use Rattle.ts_json_tables.specs.ElementRows.{short_rows}
 use Rattle.ts_json_tables.specs.HeldTables.{short_held}
 use Rattle.ts_json_tables.specs.TableElements.{short_values}
 use Rattle.ts_json_tables.proofs.ShowLemmas.{short_is_shown, shown_with}
-use Rattle.ts_json_tables.proofs.showing.short_json.Goals as goal
+use Rattle.ts_json_tables.proofs.short_showing.generic_json.Goals as goal
 
 pub element_json-requires : goal.element_json-requires
 element_json-requires c =
