@@ -1,5 +1,5 @@
 -- Tables whose PIDs are mapped, one packet more.
-use Rattle.std.proofs.Common.{◌≡◌, ⊥, Result, Ok, Err, ℕ, ◌||◌, true, false, List, [], ◌∷◌, ◌++◌, Option, Some, None, sym, ◌∙◌, ap, subst}
+use Rattle.std.proofs.Common.{◌≡◌, Result, Ok, Err, ℕ, ◌||◌, true, false, List, [], ◌∷◌, ◌++◌, Option, Some, None, sym, ◌∙◌, ap, subst}
 use Rattle.std.specs.Prelude.{MatchOption, nat_eq}
 use Rattle.ts_packet.specs.Header.{pid_of}
 use Rattle.ts_demux.specs.TablesOn.{Completes, packets_on}
