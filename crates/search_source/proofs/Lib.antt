@@ -1,0 +1,5 @@
+pub mod Counting
+pub mod Hands
+pub mod Filled
+pub mod Views
+pub mod Through
