@@ -24,7 +24,7 @@ use Rattle.chain_core.specs.ChainRun.{AllEnded}
 use Rattle.chain_core.specs.Close.{cause_of_stage, cut_at_close, cause_at_close}
 use Rattle.chain_core.specs.EveryOrder.{SoFar, AtClose}
 use Rattle.plugin_trait.specs.declared.heard.Heard.{Heard}
-use Rattle.stage_run.specs.Seeing.{Seeing, heard_rule, heard_stands}
+use Rattle.stage_run.specs.Seeing.{Seeing, heard_rule}
 use Rattle.stage_run.specs.declared.input_part.InputPart.{InputPart}
 use Rattle.stage_run.specs.declared.input_part.InputPart.TheVariants as input
 use Rattle.stage_run.specs.declared.output_part.OutputPart.{OutputPart}
@@ -33,7 +33,7 @@ use Rattle.stage_run.specs.declared.stage_part.StagePart.{StagePart}
 use Rattle.stage_run.specs.PartLists.{PartLists}
 use Rattle.stage_run.specs.PartStands.{PartStands, PartGives, rule_of, source_kind, sink_kind, a_stream, null_packets, generated_packets, no_stream, an_input, a_plugin, an_output}
 use Rattle.stage_run.specs.OutputStands.{SinkTook}
-use Rattle.stage_run.proofs.SinceLemmas.{all-since}
+use Rattle.stage_run.specs.HeardSince.{HeardSince}
 use Rattle.stage_run.specs.Parts.{IsSourceOf, IsSinkOf, FailedReading, LeavesSource, LeavesInput, LeavesOutput}
 use Rattle.plugin_trait.specs.Steps.{IsPreallocatedFor}
 use Rattle.chain_run.specs.Met.{AllMetFirst}
@@ -157,7 +157,7 @@ module _ {S K P : Type 0} (see : Seeing S K P)
     so-far : SoFar begun.plan begun.rules list state
     so-far = far see begun goes.valid_run laws parts goes.visits goes.part goes.lists by list gives
 
-    given-cut : length (state.stages out).given ≡ cut
+    pub given-cut : length (state.stages out).given ≡ cut
     given-cut =
         let a = at-close.reached out (omega arith) in
         let b : length (state.stages out).given ≡ length (take cut (end_list begun.rules list).cells) = ap (λ (l : List Cell). length l) at-close.written in
@@ -298,20 +298,22 @@ module _ {S K P : Type 0} (see : Seeing S K P)
     pub made-input : gave-of 0 ≤ length list.cells
     made-input = let first = so-far.lists 0 (omega arith) in omega (arith, ap (λ (l : List Cell). length l) first.1, length-append (state.stages 0).given first.0)
 
-    pub met-all : ((j : ℕ) → begun.told j ≡ 0) → (j : ℕ) (rest : List (StagePart S K P)) (made : List (Heard P)) → AreTakenFrom see rest made → j + length made ≡ begun.plan.plugins
-        → ((i : ℕ) (d : StagePart S K P) → i < length made → slice_index_or rest i d ≡ goes.part (suc (j + i))) → AllMetFirst (heard_stands see) begun.rules list gave-of cut j made
-    met-all untold j [] [] taken number same = tt
-    met-all untold j [] (plugin ∷ made) taken number same = absurd taken
-    met-all untold j (part ∷ []) [] taken number same = tt
-    met-all untold j (part ∷ next ∷ rest) [] taken number same = tt
-    met-all untold j (part ∷ rest) (plugin ∷ made) taken number same =
+    pub met-all : (as_ : Heard P → List Cell → ℕ → Type 0) → ((j : ℕ) (plugin : Heard P) (history : List Cell) (mark : ℕ) → HeardSince see.rule see.stands (begun.told j) plugin history mark → as_ plugin history mark)
+        → (j : ℕ) (rest : List (StagePart S K P)) (made : List (Heard P)) → AreTakenFrom see rest made → j + length made ≡ begun.plan.plugins
+        → ((i : ℕ) (d : StagePart S K P) → i < length made → slice_index_or rest i d ≡ goes.part (suc (j + i))) → AllMetFirst as_ begun.rules list gave-of cut j made
+    met-all as_ stands j [] [] taken number same = tt
+    met-all as_ stands j [] (plugin ∷ made) taken number same = absurd taken
+    met-all as_ stands j (part ∷ []) [] taken number same = tt
+    met-all as_ stands j (part ∷ next ∷ rest) [] taken number same = tt
+    met-all as_ stands j (part ∷ rest) (plugin ∷ made) taken number same =
         let lt : j < begun.plan.plugins = omega arith in
         let is : part ≡ goes.part (suc j) = same 0 part (omega arith) ∙ ap (λ n. goes.part (suc n)) (omega arith) in
         let here = at-plugin j lt in
         let own = by.stands (suc j) (omega (arith, lt)) in
-        let holds : heard_stands see plugin (goes.lists (suc j)).met (goes.lists (suc j)).mark =
-        all-since see.rule see.stands plugin (goes.lists (suc j)).met (goes.lists (suc j)).mark (goes.lists (suc j)).from (here.since ∙ untold j)
-        (taken.0.holds (goes.lists (suc j)) (state.stages (suc j)).ended (subst (λ p. PartStands see p (goes.lists (suc j)) (state.stages (suc j)).ended) (sym is) own.stands_for)) in
+        let holds : as_ plugin (goes.lists (suc j)).met (goes.lists (suc j)).mark =
+        stands j plugin (goes.lists (suc j)).met (goes.lists (suc j)).mark
+        (subst (λ (n : ℕ). HeardSince see.rule see.stands n plugin (goes.lists (suc j)).met (goes.lists (suc j)).mark) here.since
+        (taken.0.holds (goes.lists (suc j)) (state.stages (suc j)).ended (subst (λ p. PartStands see p (goes.lists (suc j)) (state.stages (suc j)).ended) (sym is) own.stands_for))) in
         let reached : cut ≤ length (state.stages (suc j)).given = at-close.reached (suc j) (omega arith) in
         let falls : length (state.stages (suc j)).given ≤ length (state.stages j).given = given-falls laws begun.plan goes.valid_run.valid.users goes.visits by.run (suc j) j (omega arith) in
         let prefix : IsPrefix (state.stages j).given (stage_list begun.rules list j).cells = so-far.lists j (omega arith) in
@@ -319,12 +321,12 @@ module _ {S K P : Type 0} (see : Seeing S K P)
         sym (ap (take (gave-of (suc j))) prefix.1 ∙ take-append-le (gave-of (suc j)) (state.stages j).given prefix.0 falls) in (
           record {
             mark = (goes.lists (suc j)).mark;
-            holds = subst (λ (h : List Cell). heard_stands see plugin h (goes.lists (suc j)).mark) (here.met ∙ first-of) holds;
+            holds = subst (λ (h : List Cell). as_ plugin h (goes.lists (suc j)).mark) (here.met ∙ first-of) holds;
             told = (let a = own.mark in let b = written-cut in omega arith);
             reach = reached;
             within = (let a = falls in omega (arith, ap (λ (l : List Cell). length l) prefix.1, length-append (state.stages j).given prefix.0));
           },
-          met-all untold (suc j) rest made taken.1 (omega arith) (λ i d below. same (suc i) d (omega arith) ∙ ap (λ n. goes.part (suc n)) (omega arith)),
+          met-all as_ stands (suc j) rest made taken.1 (omega arith) (λ i d below. same (suc i) d (omega arith) ∙ ap (λ n. goes.part (suc n)) (omega arith)),
         )
 
     -- ---- memory

@@ -5,11 +5,15 @@ use Rattle.std.proofs.Math.Seq.{get_or-append_seam}
 use Rattle.chain_model.specs.StageLists.{rule_after}
 use Rattle.chain_core.specs.declared.closed.Closed.{Closed}
 use Rattle.chain_core.specs.declared.core_plan.CorePlan.{CorePlan}
-use Rattle.chain_core.specs.Machine.{ChainState, progress_of_stages}
+use Rattle.ts_packet.specs.declared.cell.Cell.{Cell}
+use Rattle.chain_core.specs.Machine.{ChainState, Visit, progress_of_stages}
+use Rattle.chain_core.specs.Keeps.{KeptRun}
 use Rattle.chain_core.specs.ChainRun.{state_after}
 use Rattle.chain_core.specs.Close.{closed_of}
 use Rattle.plugin_trait.specs.declared.heard.Heard.{Heard}
-use Rattle.stage_run.specs.Seeing.{Seeing, heard_rule}
+use Rattle.stage_run.specs.Seeing.{Seeing, heard_rule, heard_stands}
+use Rattle.stage_run.specs.HeardSince.{HeardSince}
+use Rattle.stage_run.proofs.SinceLemmas.{all-since}
 use Rattle.stage_run.specs.declared.input_part.InputPart.{InputPart}
 use Rattle.stage_run.specs.declared.output_part.OutputPart.{OutputPart}
 use Rattle.stage_run.specs.declared.stage_part.StagePart.{StagePart}
@@ -17,12 +21,13 @@ use Rattle.stage_run.specs.declared.stuffing.Stuffing.{Stuffing}
 use Rattle.stage_run.specs.PartStands.{PartStands, PartGives, kind_of, stuffing_in, stream_kind, an_input}
 use Rattle.stage_run.specs.InputStands.{stuffing_of}
 use Rattle.chain_run.specs.Parts.{AreTakenFrom, ArePluginsAndOutput, AreStages, GaveBack}
-use Rattle.chain_run.specs.RunOf.{RunOf}
-use Rattle.chain_run.specs.Runs.{RunStart, began_with}
+use Rattle.chain_run.specs.RunOf.{RunBy, RunOf}
+use Rattle.chain_run.specs.RunTold.{HeardSinceOne, ClosesTold}
+use Rattle.chain_run.specs.Runs.{RunStart, began_with, told_to}
 use Rattle.chain_run.specs.Ran.{Ran, HasClosed}
 use Rattle.chain_run.specs.Laws.{MachineLaws}
-use Rattle.chain_run.proofs.RanLemmas.{is-list}
-use Rattle.chain_run.proofs.CloseLemmas.{at-close, left-input, left-output, gave-of, gave-to, made-input, met-all, wants-of, rules-all}
+use Rattle.chain_run.proofs.RanLemmas.{is-list, kept-of}
+use Rattle.chain_run.proofs.CloseLemmas.{at-close, given-cut, left-input, left-output, gave-of, gave-to, made-input, met-all, wants-of, rules-all}
 
 module _ {S K P : Type 0} (see : Seeing S K P) where
   -- ---- the stages when all have ended
@@ -86,16 +91,24 @@ module _ {S K P : Type 0} (see : Seeing S K P) where
 
   -- ---- what the run comes to
 
+  -- the run, of which each plugin that came back stands for what `as_` says; that its visits are made as the input's list says;
+  -- and how much the output gave
+  record ClosedBy (as_ : Heard P → List Cell → ℕ → Type 0) (visits : List Visit) (from made_from : InputPart S) (stuffing : Stuffing) (plugins made : List (Heard P)) (to made_to : OutputPart K) (plan : CorePlan) (closed : Closed) : Type 0 where
+    pub run : RunBy see as_ from made_from stuffing plugins made to made_to plan closed
+    pub kept : KeptRun plan (map (heard_rule see) plugins) run.list visits
+    pub gave : length ((state_after plan visits).stages (suc plan.plugins)).given ≡ closed.cut
+
   module _ (laws : MachineLaws) where
-    pub run-of : (from made_from : InputPart S) (stuffing : Stuffing) (plugins made : List (Heard P)) (to made_to : OutputPart K) (plan : CorePlan) (closed : Closed) (parts : List (StagePart S K P))
-        → HasClosed see (began_with see from stuffing plugins to plan) parts closed
+    run-by : (from made_from : InputPart S) (stuffing : Stuffing) (plugins made : List (Heard P)) (to made_to : OutputPart K) (plan : CorePlan) (closed : Closed) (parts : List (StagePart S K P)) (told : ℕ → ℕ)
+        (as_ : Heard P → List Cell → ℕ → Type 0) → ((j : ℕ) (plugin : Heard P) (history : List Cell) (mark : ℕ) → HeardSince see.rule see.stands (told j) plugin history mark → as_ plugin history mark)
+        → (has : HasClosed see (told_to (began_with see from stuffing plugins to plan) told) parts closed)
         → GaveBack see parts made_from made made_to
-        → RunOf see from made_from stuffing plugins made to made_to plan closed
-    run-of from made_from stuffing plugins made to made_to plan closed parts has back =
+        → ClosedBy as_ has.ran.visits from made_from stuffing plugins made to made_to plan closed
+    run-by from made_from stuffing plugins made to made_to plan closed parts told as_ stands has back =
         let goes = has.ran in let over = has.over in let closed-is = has.closed_is in
         let first = back.first in let rest = back.rest in let row = back.row in let front = back.front in let last = back.last in let ends = back.ends in
         let taken = back.taken in
-        let begun : RunStart S K = began_with see from stuffing plugins to plan in
+        let begun : RunStart S K = told_to (began_with see from stuffing plugins to plan) told in
         let by = goes.by in
         let state : ChainState = state_after plan goes.visits in
         let is-first : first ≡ goes.part 0 = first-is begun parts goes first rest row in
@@ -111,7 +124,7 @@ module _ {S K P : Type 0} (see : Seeing S K P) where
         let same : (i : ℕ) (d : StagePart S K P) → i < length made → slice_index_or rest i d ≡ goes.part (suc (0 + i)) =
         λ i d lt. rest-is begun parts goes first rest row i d (let a = taken-length rest made taken in omega arith) ∙ ap (λ n. goes.part (suc n)) (let e : i ≡ 0 + i = omega arith in e) in
         let rules-length : length (map (heard_rule see) plugins) ≡ plan.plugins = goes.valid_run.rules_are in
-        let done : RunOf see from made_from stuffing plugins made to made_to plan (closed_of plan (progress_of_stages state)) = record {
+        let done : RunBy see as_ from made_from stuffing plugins made to made_to plan (closed_of plan (progress_of_stages state)) = record {
           list = chosen.list;
           is_list = is-list see begun goes.valid_run laws parts goes.visits goes.part goes.lists by chosen.list gives;
           closes = at.pure_or_fault;
@@ -124,9 +137,31 @@ module _ {S K P : Type 0} (see : Seeing S K P) where
           gave = gave-of see laws begun parts goes over;
           gave_to = gave-to see laws begun parts goes over chosen.list gives;
           input_gave = made-input see laws begun parts goes over chosen.list gives;
-          met = met-all see laws begun parts goes over chosen.list gives (λ j. refl) 0 rest made taken (omega arith) same;
+          met = met-all see laws begun parts goes over chosen.list gives as_ stands 0 rest made taken (omega arith) same;
           memory = wants-of see laws begun parts goes over chosen.list gives;
           rules = rules-all see laws begun parts goes over 0 (map (heard_rule see) plugins) rest made taken (many ∙ sym rules-length) (omega arith) same
               (λ i lt. ap (rule_after (map (heard_rule see) plugins)) (let e : 0 + i ≡ i = omega arith in e));
         } in
-        subst (λ (c : Closed). RunOf see from made_from stuffing plugins made to made_to plan c) (sym closed-is) done
+        subst (λ (c : Closed). ClosedBy as_ goes.visits from made_from stuffing plugins made to made_to plan c) (sym closed-is)
+        (record {
+          run = done;
+          kept = kept-of see begun goes.valid_run laws parts goes.visits goes.part goes.lists by chosen.list gives;
+          gave = given-cut see laws begun parts goes over chosen.list gives;
+        })
+
+    pub run-of : (from made_from : InputPart S) (stuffing : Stuffing) (plugins made : List (Heard P)) (to made_to : OutputPart K) (plan : CorePlan) (closed : Closed) (parts : List (StagePart S K P))
+        → HasClosed see (began_with see from stuffing plugins to plan) parts closed
+        → GaveBack see parts made_from made made_to
+        → RunOf see from made_from stuffing plugins made to made_to plan closed
+    run-of from made_from stuffing plugins made to made_to plan closed parts has back =
+        (run-by from made_from stuffing plugins made to made_to plan closed parts (λ _. 0) (heard_stands see)
+        (λ j plugin history mark since. all-since see.rule see.stands plugin history mark 0 refl since) has back).run
+
+    -- the same where lines were taken away
+    pub closes-told : (from made_from : InputPart S) (stuffing : Stuffing) (plugins made : List (Heard P)) (to made_to : OutputPart K) (plan : CorePlan) (closed : Closed) (parts : List (StagePart S K P)) (told : ℕ → ℕ)
+        → (has : HasClosed see (told_to (began_with see from stuffing plugins to plan) told) parts closed)
+        → GaveBack see parts made_from made made_to
+        → ClosesTold see told has.ran.visits from made_from stuffing plugins made to made_to plan closed
+    closes-told from made_from stuffing plugins made to made_to plan closed parts told has back =
+        let done = run-by from made_from stuffing plugins made to made_to plan closed parts told (HeardSinceOne see told) (λ j plugin history mark since. (j, since)) has back in
+        record { run = done.run; kept = done.kept; gave = done.gave }

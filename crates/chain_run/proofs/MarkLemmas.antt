@@ -1,5 +1,5 @@
 -- A plugin that is given a mark, or of which lines are taken away, between two turns.
-use Rattle.std.proofs.Common.{◌≡◌, ◌≢◌, ℕ, zero, suc, ◌+◌, ◌<◌, ◌≤◌, List, length, ◌==◌, if◌then◌else◌, Bool, Option, ap, sym, ◌∙◌, subst, arith, inl, inr}
+use Rattle.std.proofs.Common.{◌≡◌, ◌≢◌, ℕ, zero, suc, ◌+◌, ◌<◌, ◌≤◌, List, length, ◌==◌, if◌then◌else◌, Bool, Option, refl, ap, sym, ◌∙◌, subst, arith, inl, inr}
 use Rattle.std.specs.Prelude.{slice_set, slice_index_or}
 use Rattle.std.proofs.lemmas.Bool.{cases_eq, eq-eqb, ne_eqb}
 use Rattle.std.proofs.lemmas.List.{get_or-set_same, get_or-set_other, length-set}
@@ -34,7 +34,7 @@ module _ {S K P : Type 0} (see : Seeing S K P) (begun : RunStart S K) (told : �
       record { kind = o.kind; stream = o.stream; met = o.met; sink = o.sink; failed = λ is. failed-told lists given before taken Gives (o.failed is) }
 
   pub doing-told : (part : StagePart S K P) (k : ℕ) (lists : PartLists) (given : List Cell) (ended : Option StageEnd) (low taken : ℕ) (gave : ℕ → List Cell) (Gives : StageList → Type 0)
-      → ((j : ℕ) → suc j ≡ k → told j ≡ begun.told j)
+      → ((j : ℕ) → suc j ≡ k → j < begun.plan.plugins → told j ≡ begun.told j)
       → Doing see begun part k lists given ended low taken gave Gives → Doing see (told_to begun told) part k lists given ended low taken gave Gives
   doing-told part k lists given ended low taken gave Gives same d = record {
     stands_for = d.stands_for;
@@ -42,7 +42,7 @@ module _ {S K P : Type 0} (see : Seeing S K P) (begun : RunStart S K) (told : �
     mark = d.mark;
     memory = d.memory;
     input = λ e. input-told part lists low (d.input e);
-    plugin = λ j e lt. let p = d.plugin j e lt in record { kind = p.kind; rule_is = p.rule_is; room_is = p.room_is; met = p.met; since = p.since ∙ sym (same j e) };
+    plugin = λ j e lt. let p = d.plugin j e lt in record { kind = p.kind; rule_is = p.rule_is; room_is = p.room_is; met = p.met; since = p.since ∙ sym (same j e lt) };
     output = λ e. output-told part lists given (gave begun.plan.plugins) ended taken Gives (d.output e);
   }
 
@@ -100,7 +100,7 @@ module _ {S K P : Type 0} (see : Seeing S K P) (begun : RunStart S K) (told : �
   stands-now : (k : ℕ) → k ≤ suc begun.plan.plugins → StandsIn see (told_to begun told) (part_now k) k (lists_now k) state Gives
   stands-now zero le =
       doing-told see begun told (part zero) zero (lists zero) (state.stages zero).given (state.stages zero).ended (written_of begun.plan (progress_of_stages state)) (state.stages zero).taken (λ i. (state.stages i).given) Gives
-      (λ i e. absurd (omega arith)) (ran.stands zero le)
+      (λ i e few. absurd (omega arith)) (ran.stands zero le)
   stands-now (suc k) le =
       elim (cases_eq k j) [
         | inl same ↦
@@ -109,21 +109,27 @@ module _ {S K P : Type 0} (see : Seeing S K P) (begun : RunStart S K) (told : �
         | inr apart ↦
             subst (λ (b : Bool). StandsIn see (told_to begun told) (if b then new else part (suc k)) (suc k) (if b then change (lists (suc j)) else lists (suc k)) state Gives) (sym (ne_eqb k j apart))
             (doing-told see begun told (part (suc k)) (suc k) (lists (suc k)) (state.stages (suc k)).given (state.stages (suc k)).ended (written_of begun.plan (progress_of_stages state)) (state.stages (suc k)).taken (λ i. (state.stages i).given) Gives
-            (λ i e. others i (λ f. apart (omega arith))) (ran.stands (suc k) le))
+            (λ i e few. others i (λ f. apart (omega arith))) (ran.stands (suc k) le))
       ]
 
   -- the run is one that led here, with this change
   pub ran-noted : RanBy see (told_to begun told) (slice_set parts (suc j) new) visits part_now lists_now
   ran-noted = record { parts_are = part-is; run = ran.run; kept = ran.kept; stands = stands-now }
 
--- the same of a run in one thread between its turns
+-- the same of a run in one thread between its turns: it made the same visits, and the plugin stands for what was changed
+pub record IsNoted {S K P : Type 0} (see : Seeing S K P) (begun : RunStart S K) (told : ℕ → ℕ) (core : CoreNumbers) (parts : List (StagePart S K P)) (cells : List Cell)
+    (goes : IsRunning see begun core parts cells) (j : ℕ) (new : StagePart S K P) (change : PartLists → PartLists) : Type 0 where
+  pub now : IsRunning see (told_to begun told) core (slice_set parts (suc j) new) cells
+  pub visits_are : now.runs.visits ≡ goes.runs.visits
+  pub own : now.runs.lists (suc j) ≡ change (goes.runs.lists (suc j))
+
 pub is-noted : {S K P : Type 0} (see : Seeing S K P) (begun : RunStart S K) (told : ℕ → ℕ) (core : CoreNumbers) (parts : List (StagePart S K P)) (cells : List Cell)
     (goes : IsRunning see begun core parts cells) (j : ℕ) (lt : j < begun.plan.plugins) (new : StagePart S K P)
     (change : PartLists → PartLists) (Allows : PartLists → Type 0) → Noted see (goes.runs.part (suc j)) new change Allows → Allows (goes.runs.lists (suc j))
     → (change (goes.runs.lists (suc j))).met ≡ (goes.runs.lists (suc j)).met → (change (goes.runs.lists (suc j))).given ≡ (goes.runs.lists (suc j)).given
     → (change (goes.runs.lists (suc j))).mark ≤ written_of begun.plan (progress_of_stages (state_after begun.plan goes.runs.visits))
     → (change (goes.runs.lists (suc j))).from ≡ told j → ((i : ℕ) → i ≢ j → told i ≡ begun.told i)
-    → IsRunning see (told_to begun told) core (slice_set parts (suc j) new) cells
+    → IsNoted see begun told core parts cells goes j new change
 is-noted see begun told core parts cells goes j lt new change Allows noted allows met_same given_same low own others =
     let by = goes.runs.by in
     let fits = goes.fits in
@@ -131,16 +137,48 @@ is-noted see begun told core parts cells goes j lt new change Allows noted allow
     let part = goes.runs.part in
     let lists = goes.runs.lists in
     record {
-      fits = record { plan_is = fits.plan_is; run = valid-told see begun told fits.run; stages_are = length-set parts (suc j) new ∙ fits.stages_are; slots_are = fits.slots_are };
-      runs = record {
-        visits = visits;
-        part = part_now see begun told parts visits part lists by.ran fits.stages_are j lt new change Allows noted allows met_same given_same low own others;
-        lists = lists_now see begun told parts visits part lists by.ran fits.stages_are j lt new change Allows noted allows met_same given_same low own others;
-        by = record {
-          ran = ran-noted see begun told parts visits part lists by.ran fits.stages_are j lt new change Allows noted allows met_same given_same low own others;
-          numbers = by.numbers;
-          going = by.going;
-          buffer = by.buffer;
+      now = record {
+        fits = record { plan_is = fits.plan_is; run = valid-told see begun told fits.run; stages_are = length-set parts (suc j) new ∙ fits.stages_are; slots_are = fits.slots_are };
+        runs = record {
+          visits = visits;
+          part = part_now see begun told parts visits part lists by.ran fits.stages_are j lt new change Allows noted allows met_same given_same low own others;
+          lists = lists_now see begun told parts visits part lists by.ran fits.stages_are j lt new change Allows noted allows met_same given_same low own others;
+          by = record {
+            ran = ran-noted see begun told parts visits part lists by.ran fits.stages_are j lt new change Allows noted allows met_same given_same low own others;
+            numbers = by.numbers;
+            going = by.going;
+            buffer = by.buffer;
+          };
         };
       };
+      visits_are = refl;
+      own = ap (λ (b : Bool). if b then change (lists (suc j)) else lists (suc j)) (eq-eqb j j refl);
     }
+
+-- how far lines were taken away is asked of the plugins alone
+module _ {S K P : Type 0} (see : Seeing S K P) (begun : RunStart S K) (told : ℕ → ℕ) (core : CoreNumbers) (parts : List (StagePart S K P)) (cells : List Cell)
+    (goes : IsRunning see begun core parts cells) (same : (j : ℕ) → j < begun.plan.plugins → told j ≡ begun.told j) where
+  pub stands-otherwise : (k : ℕ) → k ≤ suc begun.plan.plugins
+      → StandsIn see (told_to begun told) (goes.runs.part k) k (goes.runs.lists k) (state_after begun.plan goes.runs.visits) (PartGives see (goes.runs.part 0) (goes.runs.lists 0))
+  stands-otherwise k le =
+      let state : ChainState = state_after begun.plan goes.runs.visits in
+      doing-told see begun told (goes.runs.part k) k (goes.runs.lists k) (state.stages k).given (state.stages k).ended (written_of begun.plan (progress_of_stages state)) (state.stages k).taken (λ i. (state.stages i).given) (PartGives see (goes.runs.part 0) (goes.runs.lists 0))
+      (λ j e lt. same j lt) (goes.runs.by.ran.stands k le)
+
+  abbrev pub told-otherwise : IsRunning see (told_to begun told) core parts cells
+  told-otherwise =
+      let by = goes.runs.by in
+      record {
+        fits = record { plan_is = goes.fits.plan_is; run = valid-told see begun told goes.fits.run; stages_are = goes.fits.stages_are; slots_are = goes.fits.slots_are };
+        runs = record {
+          visits = goes.runs.visits;
+          part = goes.runs.part;
+          lists = goes.runs.lists;
+          by = record {
+            ran = record { parts_are = by.ran.parts_are; run = by.ran.run; kept = by.ran.kept; stands = stands-otherwise };
+            numbers = by.numbers;
+            going = by.going;
+            buffer = by.buffer;
+          };
+        };
+      }

@@ -75,7 +75,7 @@ module _ {S K P : Type 0} (see : Seeing S K P) where
     state = state_after begun.plan goes.runs.visits
 
     -- and its close is the close of a run
-    pub closed-of-run : (closed : Closed) → AllEnded core.plan (progress_of_core core) → ((state : ChainState) → StandsFor core state → closed ≡ closed_of core.plan (progress_of_stages state)) → HasClosed see begun parts closed
+    abbrev pub closed-of-run : (closed : Closed) → AllEnded core.plan (progress_of_core core) → ((state : ChainState) → StandsFor core state → closed ≡ closed_of core.plan (progress_of_stages state)) → HasClosed see begun parts closed
     closed-of-run closed over closes = record {
       ran = ran-of;
       over = subst (λ (p : CorePlan). AllEnded p (progress_of_stages state)) goes.fits.plan_is

@@ -1,5 +1,5 @@
 -- What a layer above needs of a run, in other words.
-use Rattle.std.proofs.Common.{ℕ, suc, ◌-◌, List, [], ◌∷◌, take, arith}
+use Rattle.std.proofs.Common.{ℕ, suc, List, [], ◌∷◌, take, arith}
 use Rattle.std.specs.Prelude.{Ok, Err, IsOk, OnErr}
 use Rattle.std.specs.declared.result.Result.{Result}
 use Rattle.std.proofs.lemmas.List.{take-take, length-take}

@@ -1,18 +1,18 @@
 -- A turn, from what its calls ensure.
-use Rattle.std.proofs.Common.{◌≡◌, ◌⊎◌, ℕ, suc, ◌+◌, ◌^◌, ◌<◌, ◌≤◌, true, List, length, None, sym, ◌∙◌, subst, ap}
+use Rattle.std.proofs.Common.{◌≡◌, ◌⊎◌, ℕ, suc, ◌+◌, ◌^◌, ◌<◌, ◌≤◌, true, List, [], ◌∷◌, ◌++◌, length, None, refl, sym, ◌∙◌, subst, ap, append_assoc}
 use Rattle.std.specs.Prelude.{slice_index_or, is_some}
 use Rattle.ts_packet.specs.declared.cell.Cell.{Cell}
 use Rattle.chain_core.specs.declared.news.News.{News}
 use Rattle.chain_core.specs.Numbers.{MayVisit}
-use Rattle.chain_core.specs.Machine.{ChainState, visit_of, visited}
+use Rattle.chain_core.specs.Machine.{ChainState, Visit, visit_of, visited}
 use Rattle.chain_core.specs.CoreNumbers.{CoreNumbers, StandsFor, progress_of_core}
 use Rattle.stage_run.specs.Seeing.{Seeing}
 use Rattle.stage_run.specs.declared.stage_part.StagePart.{StagePart}
 use Rattle.stage_run.specs.declared.work.Work.{Work}
 use Rattle.stage_run.specs.PartStands.{PartStands, MayWorkOnSome}
-use Rattle.chain_run.specs.Runs.{RunStart}
+use Rattle.chain_run.specs.Runs.{RunStart, nothing_told}
 use Rattle.chain_run.specs.SerialRuns.{IsIdle, remaining_work}
-use Rattle.chain_run.specs.Working.{IsRunning, IsRunningSomehow, StageWorks, Looks}
+use Rattle.chain_run.specs.Working.{IsRunning, IsRunningSomehow, RanOn, StageWorks, Looks}
 use Rattle.chain_run.specs.Laws.{MachineLaws}
 use Rattle.chain_run.proofs.TurnWorks.{Looked, look, work-written, work-given, work-taken, work-stands, work-may, turned}
 use Rattle.chain_run.proofs.TurnMoves.{moves, rests, idle}
@@ -25,9 +25,12 @@ module _ {S K P : Type 0} (see : Seeing S K P) (laws : MachineLaws)
   abbrev Looked_ : RunStart S K → Type 0
   Looked_ begun = Looked see laws begun core1 parts cells k news
 
-  looked-of : (begun : RunStart S K) → IsRunning see begun core parts cells → Looked_ begun
-  looked-of begun runs =
+  both-of : (begun : RunStart S K) (runs : IsRunning see begun core parts cells) → (looked : Looked_ begun) × (looked.visits ≡ visit_of k [] nothing_told ∷ runs.runs.visits)
+  both-of begun runs =
       look see laws begun core core1 parts cells runs k news is_stage open_ looks.plan_same looks.visited_is looks.news_is
+
+  abbrev looked-of : (begun : RunStart S K) → IsRunning see begun core parts cells → Looked_ begun
+  looked-of begun runs = (both-of begun runs).0
 
   somehow : Looked_ goes.0
   somehow = looked-of goes.0 goes.1
@@ -57,9 +60,14 @@ module _ {S K P : Type 0} (see : Seeing S K P) (laws : MachineLaws)
       told =
           subst (λ (c : CoreNumbers). (state : ChainState) (gave : List Cell) → length gave ≡ work.done → StandsFor c state → StandsFor core2 (visited c.plan state (visit_of k gave work.word))) same second
 
-      pub turn-goes : (begun : RunStart S K) → IsRunning see begun core parts cells → IsRunning see begun core2 parts_new cells_new
+      pub turn-goes : (begun : RunStart S K) (runs : IsRunning see begun core parts cells) → RanOn see begun runs.runs.visits core2 parts_new cells_new
       turn-goes begun runs =
-          turned see laws begun core1 parts cells k news (looked-of begun runs) parts_new cells_new work works core2 (plan2 ∙ ap (λ (c : CoreNumbers). c.plan) same) told
+          let then_ = turned see laws begun core1 parts cells k news (looked-of begun runs) parts_new cells_new work works core2 (plan2 ∙ ap (λ (c : CoreNumbers). c.plan) same) told in
+          record {
+            now = then_.now;
+            more = then_.more ++ visit_of k [] nothing_told ∷ [];
+            visits_are = then_.visits_are ∙ (ap (λ (l : List Visit). then_.more ++ l) (both-of begun runs).1 ∙ sym (append_assoc then_.more (visit_of k [] nothing_told ∷ []) runs.runs.visits));
+          }
 
       pub turn-moves : (0 < work.done) ⊎ (is_some work.word.ended ≡ true) → remaining_work (progress_of_core core2) (core.plan.plugins + 2) < remaining_work (progress_of_core core) (core.plan.plugins + 2)
       turn-moves =
@@ -72,3 +80,16 @@ module _ {S K P : Type 0} (see : Seeing S K P) (laws : MachineLaws)
       pub turn-idle : work.done ≡ 0 → work.word.ended ≡ None → IsIdle core.plan (progress_of_core core2) k
       turn-idle =
           idle see laws goes.0 core core1 core2 parts cells goes.1 k is_stage open_ news somehow parts_new cells_new work works looks.visited_is told
+
+-- a chain on which nothing was done, and one that ran on twice
+module _ {S K P : Type 0} (see : Seeing S K P) (begun : RunStart S K) where
+  pub rests-there : (core : CoreNumbers) (parts : List (StagePart S K P)) (cells : List Cell) (goes : IsRunning see begun core parts cells) → RanOn see begun goes.runs.visits core parts cells
+  rests-there core parts cells goes = record { now = goes; more = []; visits_are = refl }
+
+  pub ran-twice : (visits : List Visit) (core core2 : CoreNumbers) (parts parts2 : List (StagePart S K P)) (cells cells2 : List Cell)
+      (first : RanOn see begun visits core parts cells) → RanOn see begun first.now.runs.visits core2 parts2 cells2 → RanOn see begun visits core2 parts2 cells2
+  ran-twice visits core core2 parts parts2 cells cells2 first second = record {
+    now = second.now;
+    more = second.more ++ first.more;
+    visits_are = second.visits_are ∙ (ap (λ (l : List Visit). second.more ++ l) first.visits_are ∙ sym (append_assoc second.more first.more visits));
+  }

@@ -18,8 +18,8 @@ use Rattle.stage_run.specs.PartLists.{PartLists}
 use Rattle.stage_run.specs.PartStands.{PartStands, MayWork, MayWorkOnSome}
 use Rattle.stage_run.specs.Works.{PartWork}
 use Rattle.chain_run.specs.Runs.{nothing_told, RunStart}
-use Rattle.chain_run.specs.SerialRuns.{NumbersFit, RunsBy, Runs}
-use Rattle.chain_run.specs.Working.{IsRunning, StageWorks}
+use Rattle.chain_run.specs.SerialRuns.{NumbersFit, RunsBy}
+use Rattle.chain_run.specs.Working.{IsRunning, RanOn, StageWorks}
 use Rattle.chain_run.specs.Laws.{MachineLaws}
 use Rattle.chain_run.proofs.NumberLaws.{after-visit, change, given-taken, taken-below}
 use Rattle.chain_run.proofs.SlotLemmas.{length-over_row}
@@ -68,6 +68,13 @@ module _ {S K P : Type 0} (see : Seeing S K P)
     pub quiet-may : MayVisit core.plan (progress_of_core core) core.told k 0 nothing_told
     quiet-may = to-core core state k 0 nothing_told goes.fits.plan_is by.numbers quiet-allowed
 
+  -- the same, over equal stages and cells
+  moved-by : (core : CoreNumbers) (parts parts_new : List (StagePart S K P)) (cells cells_new : List Cell) (visits : List Visit) (part : ℕ → StagePart S K P) (lists : ℕ → PartLists)
+      → parts ≡ parts_new → cells ≡ cells_new → RunsBy see begun core parts cells visits part lists → RunsBy see begun core parts_new cells_new visits part lists
+  moved-by core parts parts_new cells cells_new visits part lists same_parts same_cells by =
+      subst (λ (ps : List (StagePart S K P)). RunsBy see begun core ps cells_new visits part lists) same_parts
+      (subst (λ (cs : List Cell). RunsBy see begun core parts cs visits part lists) same_cells by)
+
   -- a stage of a running chain has its news
   pub record Looked (core : CoreNumbers) (parts : List (StagePart S K P)) (cells : List Cell) (k : ℕ) (news : News) : Type 0 where
     pub fits : NumbersFit begun core (length parts) (length cells)
@@ -85,7 +92,7 @@ module _ {S K P : Type 0} (see : Seeing S K P)
       → new.plan ≡ core.plan
       → ((state : ChainState) (gave : List Cell) → length gave ≡ 0 → StandsFor core state → StandsFor new (visited core.plan state (visit_of k gave nothing_told)))
       → ((state : ChainState) (gave : List Cell) → length gave ≡ 0 → StandsFor core state → news ≡ news_after core.plan state (visit_of k gave nothing_told))
-      → Looked new parts cells k news
+      → (looked : Looked new parts cells k news) × (looked.visits ≡ visit_of k [] nothing_told ∷ goes.runs.visits)
   look core new parts cells goes k news is_stage open_ plan_same visited_is news_is =
       let by = goes.runs.by in
       let state : ChainState = state_after begun.plan goes.runs.visits in
@@ -98,24 +105,26 @@ module _ {S K P : Type 0} (see : Seeing S K P)
       let changed = change laws begun.plan goes.fits.run.valid.users goes.runs.visits quiet (by.ran.run, allowed) in
       let told : news ≡ news_of begun.plan (progress_of_stages (state_after begun.plan (quiet ∷ goes.runs.visits))) k =
       subst (λ (s : ChainState). news ≡ news_of begun.plan (progress_of_stages s) k) (sym (after-visit begun.plan goes.runs.visits quiet))
-      (subst (λ (p : CorePlan). news ≡ news_after p state quiet) goes.fits.plan_is (news_is state [] refl by.numbers)) in
-      record {
-        fits = record {
-          plan_is = plan_same ∙ goes.fits.plan_is;
-          run = goes.fits.run;
-          stages_are = goes.fits.stages_are;
-          slots_are = goes.fits.slots_are;
-        };
-        visits = quiet ∷ goes.runs.visits;
-        part = set_at goes.runs.part k (goes.runs.part k);
-        lists = set_at goes.runs.lists k (goes.runs.lists k);
-        by = quiet-visit see begun laws goes.fits.run.valid core new parts cells goes.runs.visits goes.runs.part goes.runs.lists by k stage
-            (open-state core parts cells goes k is_stage open_) allowed numbers (let a = goes.fits.stages_are in omega arith);
-        is_stage = stage;
-        open_ = changed.ended;
-        told = told;
-        limit_told = changed.told;
-      }
+      (subst (λ (p : CorePlan). news ≡ news_after p state quiet) goes.fits.plan_is (news_is state [] refl by.numbers)) in (
+        record {
+          fits = record {
+            plan_is = plan_same ∙ goes.fits.plan_is;
+            run = goes.fits.run;
+            stages_are = goes.fits.stages_are;
+            slots_are = goes.fits.slots_are;
+          };
+          visits = quiet ∷ goes.runs.visits;
+          part = set_at goes.runs.part k (goes.runs.part k);
+          lists = set_at goes.runs.lists k (goes.runs.lists k);
+          by = quiet-visit see begun laws goes.fits.run.valid core new parts cells goes.runs.visits goes.runs.part goes.runs.lists by k stage
+              (open-state core parts cells goes k is_stage open_) allowed numbers (let a = goes.fits.stages_are in omega arith);
+          is_stage = stage;
+          open_ = changed.ended;
+          told = told;
+          limit_told = changed.told;
+        },
+        refl,
+      )
 
   -- ---- its work
 
@@ -194,7 +203,7 @@ module _ {S K P : Type 0} (see : Seeing S K P)
       -- and then the chain goes on
       pub turned : (new : CoreNumbers) → new.plan ≡ core.plan
           → ((state : ChainState) (gave : List Cell) → length gave ≡ work.done → StandsFor core state → StandsFor new (visited core.plan state (visit_of k gave work.word)))
-          → IsRunning see begun new parts_new cells_new
+          → RanOn see begun looked.visits new parts_new cells_new
       turned new plan_same visited_is =
           let given : List Cell = take work.done here.window_new in
           let visit : Visit = visit_of k given work.word in
@@ -209,13 +218,21 @@ module _ {S K P : Type 0} (see : Seeing S K P)
           core new parts cells looked.visits looked.part looked.lists looked.by k looked.is_stage looked.open_ news looked.told
           here.new here.len here.in_hand here.in_row here.window_new here.same_length work worked allowed looked.fits.slots_are numbers (let a = looked.fits.stages_are in omega arith) in
           record {
-            fits = record {
-              plan_is = plan_same ∙ looked.fits.plan_is;
-              run = looked.fits.run;
-              stages_are = ap (λ (l : List (StagePart S K P)). length l) here.is_new ∙ (length-set parts k here.new ∙ looked.fits.stages_are);
-              slots_are = ap (λ (l : List Cell). length l) cells-are ∙ (length-over_row cells (at % length cells) row (let a = here.in_row in let b = here.same_length in omega arith) ∙ looked.fits.slots_are);
+            now = record {
+              fits = record {
+                plan_is = plan_same ∙ looked.fits.plan_is;
+                run = looked.fits.run;
+                stages_are = ap (λ (l : List (StagePart S K P)). length l) here.is_new ∙ (length-set parts k here.new ∙ looked.fits.stages_are);
+                slots_are = ap (λ (l : List Cell). length l) cells-are ∙ (length-over_row cells (at % length cells) row (let a = here.in_row in let b = here.same_length in omega arith) ∙ looked.fits.slots_are);
+              };
+              runs = record {
+                visits = visit ∷ looked.visits;
+                part = set_at looked.part k here.new;
+                lists = _;
+                by = moved-by new (slice_set parts k here.new) parts_new (take (at % length cells) cells ++ (row ++ drop (at % length cells + length row) cells)) cells_new
+                    (visit ∷ looked.visits) (set_at looked.part k here.new) _ (sym here.is_new) (sym cells-are) by;
+              };
             };
-            runs = subst (λ (ps : List (StagePart S K P)). Runs see begun new ps cells_new) (sym here.is_new)
-                (subst (λ (cs : List Cell). Runs see begun new (slice_set parts k here.new) cs) (sym cells-are)
-                (record { visits = visit ∷ looked.visits; part = set_at looked.part k here.new; lists = _; by = by }));
+            more = visit ∷ [];
+            visits_are = refl;
           }

@@ -5,6 +5,7 @@ pub mod Met
 pub mod Rooms
 pub mod SourceRead
 pub mod RunOf
+pub mod RunTold
 pub mod Slots
 pub mod Runs
 pub mod OneStage

@@ -66,8 +66,8 @@ pub record Gave (plugins buffer cut : ℕ) (gave : ℕ → ℕ) : Type 0 where
   pub falls : (k : ℕ) → k ≤ plugins → gave (suc k) ≤ gave k
   pub output : gave (suc plugins) ≡ cut
 
--- a run that was closed
-pub record RunOf {S K P : Type 0} (see : Seeing S K P)
+-- a run that was closed; `stands` says what each plugin that came back stands for
+pub record RunBy {S K P : Type 0} (see : Seeing S K P) (stands : Heard P → List Cell → ℕ → Type 0)
     (from made_from : InputPart S) (stuffing : Stuffing) (plugins made : List (Heard P)) (to made_to : OutputPart K)
     (plan : CorePlan) (closed : Closed) : Type 0 where
   -- the list of the input with its stuffing: that of the bytes of its source, as far as they are known
@@ -81,10 +81,15 @@ pub record RunOf {S K P : Type 0} (see : Seeing S K P)
   pub gave : ℕ → ℕ
   pub gave_to : Gave plan.plugins plan.buffer closed.cut gave
   pub input_gave : gave 0 ≤ length list.cells
-  pub met : AllMetFirst (heard_stands see) (map (heard_rule see) plugins) list gave closed.cut 0 made
+  pub met : AllMetFirst stands (map (heard_rule see) plugins) list gave closed.cut 0 made
   -- only a plugin ran out of memory, and none that made room for as many positions as the buffer has
   pub memory : (k : ℕ) → closed.cause ≡ NoMemory k → WantsMemory (map (heard_preallocated see) plugins) plan.buffer k
   pub rules : map (heard_rule see) made ≡ map (heard_rule see) plugins
+
+-- a run that was closed: the plugins came back with all lines of the cells below their marks
+abbrev pub RunOf : {S K P : Type 0} → Seeing S K P → InputPart S → InputPart S → Stuffing → List (Heard P) → List (Heard P)
+    → OutputPart K → OutputPart K → CorePlan → Closed → Type 0
+RunOf see = RunBy see (heard_stands see)
 
 -- where there was no memory for a run, nothing was read, met or written
 pub record NeverBegan {S K P : Type 0} (from made_from : InputPart S) (plugins made : List (Heard P))

@@ -2,7 +2,7 @@
 use Rattle.std.specs.Prelude.{◌≡◌, ℕ, ◌+◌, ◌%◌, ◌<◌, ◌≤◌, List, ◌++◌, length, take, drop, slice_index_or, slice_set}
 use Rattle.ts_packet.specs.declared.cell.Cell.{Cell}
 use Rattle.chain_core.specs.declared.news.News.{News}
-use Rattle.chain_core.specs.Machine.{ChainState, visit_of, visited, news_after}
+use Rattle.chain_core.specs.Machine.{ChainState, Visit, visit_of, visited, news_after}
 use Rattle.chain_core.specs.CoreNumbers.{CoreNumbers, StandsFor, progress_of_core}
 use Rattle.stage_run.specs.Seeing.{Seeing}
 use Rattle.stage_run.specs.declared.stage_part.StagePart.{StagePart}
@@ -18,6 +18,13 @@ module _ {S K P : Type 0} (see : Seeing S K P) where
       (cells : List Cell) : Type 0 where
     pub fits : NumbersFit begun core (length parts) (length cells)
     pub runs : Runs see begun core parts cells
+
+  -- a chain that ran on from these visits: its stages made more
+  pub record RanOn (begun : RunStart S K) (visits : List Visit) (core : CoreNumbers) (parts : List (StagePart S K P))
+      (cells : List Cell) : Type 0 where
+    pub now : IsRunning begun core parts cells
+    pub more : List Visit
+    pub visits_are : now.runs.visits ≡ more ++ visits
 
   -- a chain that runs, however it began
   abbrev pub IsRunningSomehow : CoreNumbers → List (StagePart S K P) → List Cell → Type 0
@@ -47,8 +54,8 @@ module _ {S K P : Type 0} (see : Seeing S K P) where
 
   -- whatever it began as, the chain runs on
   abbrev pub RunsOn : SerialChain S K P → SerialChain S K P → Type 0
-  RunsOn old new = (begun : RunStart S K) → IsRunning begun old.core old.parts.items old.cells.items
-      → IsRunning begun new.core new.parts.items new.cells.items
+  RunsOn old new = (begun : RunStart S K) (goes : IsRunning begun old.core old.parts.items old.cells.items)
+      → RanOn begun goes.runs.visits new.core new.parts.items new.cells.items
 
   -- the stage worked on cells after those that it has given
   abbrev pub WorksOn : SerialChain S K P → SerialChain S K P → ℕ → News → Work → Type 0

@@ -21,6 +21,7 @@ mod stages;
 pub use laws::{any_run, machine_laws};
 pub use parts::{GivenBack, StageRooms, lay_stages, take_apart};
 pub use run_end::RunEnd;
-pub use serial_run::run_serial;
+pub use serial_chain::SerialChain;
+pub use serial_run::{SerialRun, begin, end, run_serial};
 pub use stage_laws::one_stage;
 pub use stages::Stages;

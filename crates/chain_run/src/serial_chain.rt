@@ -46,12 +46,12 @@ fn look(core: &mut Core, stage: usize) -> News
 }
 
 /// A chain that runs in one thread: its numbers, its stages, and the cells between them.
-pub(crate) struct SerialChain<S, K, P> {
-    pub(crate) core: Core,
+pub struct SerialChain<S, K, P> {
+    pub core: Core,
     /// The input, the plugins and the output, in this order.
-    pub(crate) parts: Vec<StagePart<S, K, P>>,
+    pub parts: Vec<StagePart<S, K, P>>,
     /// The buffer: the cell at a position is in the slot of that number modulo the number of slots.
-    pub(crate) cells: Vec<Cell>,
+    pub cells: Vec<Cell>,
 }
 
 impl<S: Source, K: Sink, P: Plugin> SerialChain<S, K, P> {
@@ -121,18 +121,23 @@ impl<S: Source, K: Sink, P: Plugin> SerialChain<S, K, P> {
         work.done > 0 || work.word.ended.is_some()
     }
 
-    /// The turns of all stages. Returns whether anything moved.
-    fn turns<G: Gate>(&mut self, sizes: &[u32], next: &mut usize, gate: &G) -> bool
+    /// A round: each stage takes a turn, in the order of the stages. Returns whether anything moved; where nothing did, all
+    /// stages have ended.
+    ///
+    /// A turn works on at most as many cells as `sizes` has at `next`, which then goes on to the next place, after the last
+    /// one to the first. With each round that moves anything less is left to do.
+    pub fn round<G: Gate>(&mut self, sizes: &[u32], next: &mut usize, gate: &G) -> bool
         requires runs { RunsSomehow (seeing S.seen K.seen P.rule P.stands_for P.preallocated) self.old }
         requires sizes { All (λ size. 1 ≤ size) sizes.now }
         requires next { next.old < length sizes.now }
         ensures runs { RunsOn (seeing S.seen K.seen P.rule P.stands_for P.preallocated) self.old self.new }
         ensures moved { result ≡ true → LeavesLess self.old self.new }
-        ensures idle { result ≡ false → (stage : ℕ) → stage ≤ suc self.old.core.plan.plugins
-            → IsIdleOrOver self.old.core.plan (progress_of_core self.new.core) stage }
+        ensures over { result ≡ false → AllEnded self.new.core.plan (progress_of_core self.new.core) }
         ensures plan { self.new.core.plan ≡ self.old.core.plan }
         ensures next { next.new < length sizes.now }
     {
+        // It runs nothing: the proof cites it.
+        machine_laws();
         let mut moved = false;
         for stage in 0..self.parts.len() {
             let most = sizes[*next];
@@ -151,9 +156,7 @@ impl<S: Source, K: Sink, P: Plugin> SerialChain<S, K, P> {
         ensures runs { RunsOn (seeing S.seen K.seen P.rule P.stands_for P.preallocated) self.old self.new }
         ensures over { AllEnded self.new.core.plan (progress_of_core self.new.core) }
     {
-        // It runs nothing: the proof cites it.
-        machine_laws();
         let mut next = 0;
-        while self.turns(sizes, &mut next, gate) {}
+        while self.round(sizes, &mut next, gate) {}
     }
 }

@@ -1,8 +1,9 @@
 //! A run of a chain in one thread: its memory, its stages in a row, and the chain taken apart again.
-ghost use Rattle.std.specs.Prelude.{◌≡◌, ◌≤◌, ◌<◌, ◌+◌, ℕ, List, [], length, vec_len, vec_capacity, IfOk, OnErr, IsOk};
+ghost use Rattle.std.specs.Prelude.{◌≡◌, ◌≤◌, ◌<◌, ◌+◌, ℕ, List, [], length, vec_len, vec_capacity, IfOk, IfErr, OnErr, IsOk};
 ghost use Rattle.std.specs.List.{All};
 ghost use Rattle.chain_core.specs.declared.core_plan.CorePlan.{CorePlan};
-ghost use Rattle.chain_core.specs.CoreNumbers.{IsValidPlan, StandsFor};
+ghost use Rattle.chain_core.specs.ChainRun.{AllEnded};
+ghost use Rattle.chain_core.specs.CoreNumbers.{IsValidPlan, StandsFor, progress_of_core};
 ghost use Rattle.chain_core.specs.Machine.{start};
 ghost use Rattle.plugin_trait.specs.HeardStands.{HeardStands};
 ghost use Rattle.plugin_trait.specs.declared.heard.Heard.{Heard};
@@ -12,9 +13,10 @@ ghost use Rattle.stage_run.specs.declared.output_part.OutputPart.{OutputPart};
 ghost use Rattle.stage_run.specs.declared.stuffing.Stuffing.{Stuffing};
 ghost use Rattle.stage_run.specs.Parts.{IsUnused};
 ghost use Rattle.chain_run.specs.Fresh.{AreFresh};
-ghost use Rattle.chain_run.specs.Runs.{began_with};
+ghost use Rattle.chain_run.specs.Runs.{began_with, told_to};
 ghost use Rattle.chain_run.specs.Working.{IsRunning, RunsSomehow};
 ghost use Rattle.chain_run.specs.RunOf.{RunOf, NeverBegan};
+ghost use Rattle.chain_run.specs.RunTold.{ClosesTold};
 
 use crate::laws::any_run;
 use crate::parts::{GivenBack, StageRooms, lay_stages, take_apart};
@@ -86,30 +88,71 @@ fn lay<S: Source, K: Sink, P: Plugin>(
     SerialChain { core, parts, cells }
 }
 
-/// Runs a chain until all its stages have ended, and takes it apart. The plugins go into the row, which has room for them.
-fn run_laid<S: Source, K: Sink, P: Plugin, G: Gate>(
-    mut chain: SerialChain<S, K, P>,
-    plugins: Vec<Heard<P>>,
-    sizes: &[u32],
-    gate: &G,
-) -> RunEnd<S, K, P>
-    requires runs { RunsSomehow (seeing S.seen K.seen P.rule P.stands_for P.preallocated) chain }
-    requires none { plugins.items ≡ [] }
-    requires room { length chain.parts.items ≤ vec_capacity plugins + 2 }
-    requires sizes { All (λ size. 1 ≤ size) sizes.now }
-    requires some_size { 0 < length sizes.now }
+/// A chain that was begun, and the row into which its plugins return.
+pub struct SerialRun<S, K, P> {
+    pub chain: SerialChain<S, K, P>,
+    /// Empty, with room for the plugins.
+    pub plugins: Vec<Heard<P>>,
+}
+
+/// Begins a run in one thread: takes its memory and lays its stages in a row. Nothing is read, met or written. Where there is
+/// not enough memory the stages come back as they were.
+pub fn begin<S: Source, K: Sink, P: Plugin>(
+    alloc: Global,
+    stages: Stages<S, K, P>,
+    plan: &CorePlan,
+) -> Result<SerialRun<S, K, P>, Stages<S, K, P>>
+    requires every { 1 ≤ stages.stuffing.every }
+    requires unused { IsUnused stages.input }
+    requires valid { IsValidPlan plan.now }
+    requires plugins { plan.now.plugins ≡ vec_len stages.plugins }
+    requires fresh { AreFresh (HeardStands P.rule P.stands_for) stages.plugins.items }
+    ensures runs { let see = seeing S.seen K.seen P.rule P.stands_for P.preallocated in
+        IfOk result (λ run. IsRunning see
+        (began_with see stages.input stages.stuffing stages.plugins.items stages.output plan.now)
+        run.chain.core run.chain.parts.items run.chain.cells.items) }
+    ensures none { IfOk result (λ run. run.plugins.items ≡ []) }
+    ensures room { IfOk result (λ run. length run.chain.parts.items ≤ vec_capacity run.plugins + 2) }
+    ensures as_they_were { IfErr result (λ back. back ≡ stages) }
+{
+    let Ok(memory) = SerialMemory::new(alloc, plan) else {
+        return Err(stages);
+    };
+    let Stages {
+        input,
+        stuffing,
+        mut plugins,
+        output,
+    } = stages;
+    let chain = lay(memory, input, stuffing, &mut plugins, output);
+    Ok(SerialRun { chain, plugins })
+}
+
+/// Ends a run of which all stages have ended: closes it and takes it apart.
+pub fn end<S: Source, K: Sink, P: Plugin>(run: SerialRun<S, K, P>) -> RunEnd<S, K, P>
+    requires runs { RunsSomehow (seeing S.seen K.seen P.rule P.stands_for P.preallocated) run.chain }
+    requires none { run.plugins.items ≡ [] }
+    requires room { length run.chain.parts.items ≤ vec_capacity run.plugins + 2 }
+    requires over { AllEnded run.chain.core.plan (progress_of_core run.chain.core) }
     ensures runs { (from : InputPart S) (stuffing : Stuffing) (met_none : List (Heard P)) (to : OutputPart K)
         (plan : CorePlan)
         → let see = seeing S.seen K.seen P.rule P.stands_for P.preallocated in
         IsRunning see (began_with see from stuffing met_none to plan)
-        chain.core chain.parts.items chain.cells.items
+        run.chain.core run.chain.parts.items run.chain.cells.items
         → IfOk result.closed
         (RunOf see from result.input stuffing met_none result.plugins.items to result.output plan) }
+    ensures told { (from : InputPart S) (stuffing : Stuffing) (met_none : List (Heard P)) (to : OutputPart K)
+        (plan : CorePlan) (told : ℕ → ℕ)
+        → let see = seeing S.seen K.seen P.rule P.stands_for P.preallocated in
+        (goes : IsRunning see (told_to (began_with see from stuffing met_none to plan) told)
+        run.chain.core run.chain.parts.items run.chain.cells.items)
+        → IfOk result.closed (ClosesTold see told goes.runs.visits
+        from result.input stuffing met_none result.plugins.items to result.output plan) }
     ensures ran { IsOk result.closed }
 {
-    chain.run(sizes, gate);
     // It runs nothing: the proof cites it.
     any_run::<S, K, P>();
+    let SerialRun { chain, plugins } = run;
     let SerialChain {
         core,
         parts,
@@ -127,6 +170,30 @@ fn run_laid<S: Source, K: Sink, P: Plugin, G: Gate>(
         output,
         closed: Ok(closed),
     }
+}
+
+/// Runs a chain until all its stages have ended, and takes it apart. The plugins go into the row, which has room for them.
+fn run_laid<S: Source, K: Sink, P: Plugin, G: Gate>(
+    mut run: SerialRun<S, K, P>,
+    sizes: &[u32],
+    gate: &G,
+) -> RunEnd<S, K, P>
+    requires runs { RunsSomehow (seeing S.seen K.seen P.rule P.stands_for P.preallocated) run.chain }
+    requires none { run.plugins.items ≡ [] }
+    requires room { length run.chain.parts.items ≤ vec_capacity run.plugins + 2 }
+    requires sizes { All (λ size. 1 ≤ size) sizes.now }
+    requires some_size { 0 < length sizes.now }
+    ensures runs { (from : InputPart S) (stuffing : Stuffing) (met_none : List (Heard P)) (to : OutputPart K)
+        (plan : CorePlan)
+        → let see = seeing S.seen K.seen P.rule P.stands_for P.preallocated in
+        IsRunning see (began_with see from stuffing met_none to plan)
+        run.chain.core run.chain.parts.items run.chain.cells.items
+        → IfOk result.closed
+        (RunOf see from result.input stuffing met_none result.plugins.items to result.output plan) }
+    ensures ran { IsOk result.closed }
+{
+    run.chain.run(sizes, gate);
+    end(run)
 }
 
 /// Runs a chain in one thread, its stages in turn, and returns its parts.
@@ -153,20 +220,20 @@ pub fn run_serial<S: Source, K: Sink, P: Plugin, G: Gate>(
     ensures never_began { OnErr result.closed (NeverBegan stages.input result.input
         stages.plugins.items result.plugins.items stages.output result.output) }
 {
-    let Stages {
-        input,
-        stuffing,
-        mut plugins,
-        output,
-    } = stages;
-    let Ok(memory) = SerialMemory::new(alloc, plan) else {
-        return RunEnd {
+    match begin(alloc, stages, plan) {
+        Ok(run) => run_laid(run, sizes, gate),
+        Err(
+            Stages {
+                input,
+                stuffing: _,
+                plugins,
+                output,
+            },
+        ) => RunEnd {
             input,
             plugins,
             output,
             closed: Err(AllocError),
-        };
-    };
-    let chain = lay(memory, input, stuffing, &mut plugins, output);
-    run_laid(chain, plugins, sizes, gate)
+        },
+    }
 }

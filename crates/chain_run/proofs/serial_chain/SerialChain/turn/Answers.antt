@@ -1,12 +1,17 @@
 use Rattle.std.proofs.Common.{◌≡◌, Option, None, Some, false, is_some, sym, ◌∙◌, arith, inl, inr, refl}
 use Rattle.stage_run.specs.Seeing.{seeing}
 use Rattle.chain_run.proofs.TurnWorks.{quiet-may}
-use Rattle.chain_run.proofs.TurnLaws.{turn-written, turn-given, turn-taken, turn-stands, turn-may, turn-goes, turn-moves, turn-rests, turn-idle}
+use Rattle.chain_run.proofs.TurnLaws.{turn-written, turn-given, turn-taken, turn-stands, turn-may, turn-goes, turn-moves, turn-rests, turn-idle, rests-there}
 use Rattle.chain_run.proofs.serial_chain.SerialChain.turn.Goals as goal
 
 still-open : {X : Type 0} (o : Option X) → is_some o ≡ false → o ≡ None
 still-open None no_ = refl
 still-open (Some x) no_ = cc
+
+pub returns-then-has_ended-clause-runs : goal.returns-then-has_ended-clause-runs
+returns-then-has_ended-clause-runs g c = λ begun goes.
+    let chain = c.args.self.now in
+    rests-there (seeing g.S.Source.seen g.K.Sink.seen g.P.Plugin.rule g.P.Plugin.stands_for g.P.Plugin.preallocated) begun chain.core chain.parts.items chain.cells.items goes
 
 pub look-news-requires : goal.look-news-requires
 look-news-requires g c =

@@ -3,7 +3,7 @@ use Rattle.chain_core.specs.CoreNumbers.{progress_of_core}
 use Rattle.stage_run.specs.Seeing.{seeing}
 use Rattle.chain_run.specs.SerialRuns.{IsIdleOrOver, remaining_work}
 use Rattle.chain_run.specs.Working.{RunsOn}
-use Rattle.chain_run.proofs.serial_chain.SerialChain.turns.Given as goal
+use Rattle.chain_run.proofs.serial_chain.SerialChain.round.Given as goal
 
 abbrev pub invariant-loop-stage : goal.invariant-loop-stage
 invariant-loop-stage g l = record {

@@ -1,0 +1,7 @@
+pub mod MetLemmas
+pub mod RowLemmas
+pub mod NextLemmas
+pub mod TakeLemmas
+pub mod TellLemmas
+pub mod LiveLemmas
+pub mod Rows

@@ -1,0 +1,40 @@
+-- What plugins met in a state, which line is next, and what was heard, computed.
+use Rattle.std.proofs.Common.{◌≡◌, ℕ, zero, suc, ◌+◌, List, [], ◌∷◌, length, None, Some, true, false, refl, arith}
+use Rattle.ts_packet.specs.Cells.{Live, Dropped}
+use Rattle.chain_core.specs.Machine.{StageState}
+use Rattle.chain_rounds.specs.declared.told_line.ToldLine.{ToldLine}
+use Rattle.chain_tells.specs.Taking.{met_in}
+use Rattle.chain_tells.specs.Waiting.{comes_first_of}
+use Rattle.chain_tells.specs.Live.{lines_of_rows, HeardRows}
+
+-- the input gave three cells, the plugin two of them, and the output one
+abbrev stages : ℕ → StageState
+stages zero = record { given = Live (1 ∷ []) 0 ∷ Dropped ∷ Live (2 ∷ []) 0 ∷ []; taken = 8; agreed = None; ended = None }
+stages (suc zero) = record { given = Live (1 ∷ []) 0 ∷ Live (3 ∷ []) 0 ∷ []; taken = 3; agreed = None; ended = None }
+stages (suc (suc k)) = record { given = Live (1 ∷ []) 0 ∷ []; taken = 2; agreed = None; ended = None }
+
+-- so the plugin met the first two cells of the input as the input gave them
+met-two : met_in (record { stages = stages; told = None }) 0 ≡ Live (1 ∷ []) 0 ∷ Dropped ∷ []
+met-two = refl
+
+-- and after it comes what it gave, of which the output gave one
+met-one : met_in (record { stages = stages; told = None }) 1 ≡ Live (1 ∷ []) 0 ∷ []
+met-one = refl
+
+-- a line comes before one of a later row at the same position, and not before one at a position below
+level : comes_first_of 3 (Some (record { row = 1; at = 3 })) ≡ true
+level = refl
+
+below : comes_first_of 3 (Some (record { row = 1; at = 2 })) ≡ false
+below = refl
+
+-- a listener that counts: it heard two lines, and then one
+abbrev counts : ℕ → ℕ → List ToldLine → Type 0
+counts old new lines = new ≡ old + length lines
+
+module _ (a b c : ToldLine) where
+  in-order : lines_of_rows ((c ∷ []) ∷ (a ∷ b ∷ []) ∷ []) ≡ a ∷ b ∷ c ∷ []
+  in-order = refl
+
+  two-rows : HeardRows counts 4 7 ((c ∷ []) ∷ (a ∷ b ∷ []) ∷ [])
+  two-rows = (6, (4, refl, omega arith, refl), omega arith, refl)

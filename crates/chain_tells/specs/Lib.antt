@@ -1,0 +1,5 @@
+-- The definitions of a chain that tells its lines while it runs.
+pub mod Waiting
+pub mod Taking
+pub mod Telling
+pub mod Live
