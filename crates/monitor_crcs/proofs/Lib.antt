@@ -1,0 +1,2 @@
+pub mod Spoiling
+mod Rows

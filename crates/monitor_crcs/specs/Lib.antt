@@ -1,0 +1,2 @@
+-- The definitions of sections with a wrong CRC.
+pub mod WrongCrcs
