@@ -1,6 +1,6 @@
 pub mod JoinedLemmas
 pub mod NumberLemmas
-pub mod PairLemmas
+pub mod OperandLemmas
 pub mod ParsedOptionsLemmas
 pub mod RefusalLemmas
 pub mod SignLemmas

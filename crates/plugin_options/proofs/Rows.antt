@@ -1,8 +1,11 @@
--- Worked rows of pairs and ranges that are joined by commas, computed on the definitions.
+-- Worked rows of pairs, ranges and parts that are joined by commas, computed on the definitions.
 use Rattle.std.proofs.Common.{◌≡◌, [], ◌∷◌, None, Some, codes, refl}
+use Rattle.ts_bits.specs.DescriptorLoop.{descriptors_from}
 use Rattle.plugin_options.specs.Number.{number_of, number_within}
 use Rattle.plugin_options.specs.Pairs.{pair_of, pairs_of}
+use Rattle.plugin_options.specs.Parts.{all_numbered_of, code_of, if_whole, numbered_of}
 use Rattle.plugin_options.specs.Ranges.{range_of, ranges_within}
+use Rattle.plugin_options.specs.declared.part.Part.TheVariants.{Code}
 
 -- two pairs, of which the second has a hexadecimal number
 two-pairs : pairs_of 47 (1, 65535) (0, 8191) (codes "1/256,0x2/257") ≡ Some ((1, 256) ∷ (2, 257) ∷ [])
@@ -18,3 +21,27 @@ empty-part = refl
 below-the-least : ranges_within 1 65535 (codes "5,0-2") ≡ None
 unfolding number_of number_within range_of ranges_within
 below-the-least = refl
+
+-- a code may have a slash and a blank
+two-codes : all_numbered_of 47 (0, 8191) Code (codes "0x101/deu,258/a /") ≡ Some ((257, codes "deu") ∷ (258, codes "a /") ∷ [])
+unfolding all_numbered_of code_of number_of number_within numbered_of
+two-codes = refl
+
+-- four characters, and a PID that there is not
+long-code : all_numbered_of 47 (0, 8191) Code (codes "257/deut") ≡ None
+unfolding all_numbered_of code_of number_of number_within numbered_of
+long-code = refl
+
+far-code : all_numbered_of 47 (0, 8191) Code (codes "8192/deu") ≡ None
+unfolding all_numbered_of code_of number_of number_within numbered_of
+far-code = refl
+
+-- a descriptor of two bytes and one of none
+whole-descriptors : if_whole (0x52 ∷ 2 ∷ 0 ∷ 42 ∷ 10 ∷ 0 ∷ []) ≡ Some (0x52 ∷ 2 ∷ 0 ∷ 42 ∷ 10 ∷ 0 ∷ [])
+unfolding descriptors_from
+whole-descriptors = refl
+
+-- a descriptor that passes the end
+cut-descriptor : if_whole (0x52 ∷ 2 ∷ 0 ∷ []) ≡ None
+unfolding descriptors_from
+cut-descriptor = refl

@@ -5,7 +5,9 @@ use Rattle.std.specs.List.{after_first, before_first, list_any, position_or_len}
 use Rattle.std.proofs.lemmas.Bool.Decides.{nat_tests}
 use Rattle.plugin_options.specs.Number.{number_within}
 use Rattle.plugin_options.specs.Pairs.{both_of, pair_of}
+use Rattle.plugin_options.specs.Parts.{numbered_of, part_of}
 use Rattle.plugin_options.specs.Ranges.{if_ordered, is_dash, ordered_pair, range_of}
+use Rattle.plugin_options.specs.declared.part.Part.{Part}
 
 -- ---- whether the sign is there
 
@@ -55,3 +57,15 @@ in_order low high h = grind (arith, nat_tests)
 
 pub out_of_order : (low high : ℕ) → high < low → if_ordered low high ≡ None
 out_of_order low high h = grind (arith, nat_tests)
+
+-- ---- parts behind numbers
+
+pub numbered_wants_sign : (sign : ℕ) (range : ℕ × ℕ) (part : Part) (s : List ℕ) → position_or_len (λ b. b == sign) s ≡ length s → numbered_of sign range part s ≡ None
+unfolding numbered_of
+numbered_wants_sign sign range part s h = ap (λ c. cond c (both_of (number_within range.0 range.1 (before_first (λ b. b == sign) s)) (part_of part (after_first (λ b. b == sign) s))) None) (is_absent (λ b. b == sign) s h)
+
+pub numbered_of_two : (sign : ℕ) (range : ℕ × ℕ) (part : Part) (s one other : List ℕ) (a : Option ℕ) (b : Option (List ℕ)) → position_or_len (λ b. b == sign) s < length s → one ≡ before_first (λ b. b == sign) s → other ≡ after_first (λ b. b == sign) s
+    → a ≡ number_within range.0 range.1 one → b ≡ part_of part other → numbered_of sign range part s ≡ both_of a b
+unfolding numbered_of
+numbered_of_two sign range part s one other a b h e1 e2 ea eb = ap (λ c. cond c (both_of (number_within range.0 range.1 (before_first (λ b. b == sign) s)) (part_of part (after_first (λ b. b == sign) s))) None) (stands (λ b. b == sign) s h)
+    ∙ ap₂ both_of (ap (number_within range.0 range.1) (sym e1) ∙ sym ea) (ap (part_of part) (sym e2) ∙ sym eb)

@@ -4,7 +4,9 @@ use Rattle.std.specs.Prelude.{ℕ, Bool, List, is_some, true}
 use Rattle.plugin_options.specs.HexText.{bytes_of}
 use Rattle.plugin_options.specs.Number.{number_within}
 use Rattle.plugin_options.specs.Pairs.{pair_of, pairs_of}
+use Rattle.plugin_options.specs.Parts.{all_numbered_of, part_of}
 use Rattle.plugin_options.specs.Ranges.{ranges_of, ranges_within}
+use Rattle.plugin_options.specs.declared.part.Part.{Part}
 
 -- the form of a value
 pub data Form : Type 0 where
@@ -20,6 +22,10 @@ pub data Form : Type 0 where
   pairs : ℕ → ℕ × ℕ → ℕ × ℕ → Form
   -- bytes as hexadecimal digits, of a least to a greatest number of bytes
   bytes : ℕ → ℕ → Form
+  -- a code, or whole descriptors
+  part : Part → Form
+  -- such parts, each behind a number from a least to a greatest and a sign, joined by commas
+  numbered : ℕ → ℕ × ℕ → Part → Form
   -- a word that this test knows
   known : (List ℕ → Bool) → Form
   -- any text
@@ -33,5 +39,7 @@ has_form (ranges_from least most) word = is_some (ranges_within least most word)
 has_form (pair sign first second) word = is_some (pair_of sign first second word)
 has_form (pairs sign first second) word = is_some (pairs_of sign first second word)
 has_form (bytes least most) word = is_some (bytes_of least most word)
+has_form (part what) word = is_some (part_of what word)
+has_form (numbered sign range what) word = is_some (all_numbered_of sign range what word)
 has_form (known test) word = test word
 has_form text word = true

@@ -1,4 +1,4 @@
--- The definitions of options as words: numbers, ranges, pairs, bytes, tables of options, and the rules they break.
+-- The definitions of options as words: numbers, ranges, pairs, bytes, codes and descriptors, tables of options, and the rules they break.
 pub mod Forms
 pub mod HexText
 pub mod Joined
@@ -7,6 +7,7 @@ pub mod OptionTable
 pub mod OptionWords
 pub mod Options
 pub mod Pairs
+pub mod Parts
 pub mod Ranges
 pub mod Refusal
 pub mod RuleText

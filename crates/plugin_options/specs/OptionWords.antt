@@ -4,7 +4,7 @@ use Rattle.std.specs.Prelude.{ℕ, List, map}
 use Rattle.std.specs.List.{list_any}
 use Rattle.std.specs.Str.{bytes_eq}
 use Rattle.clap.specs.Walk.{Rule}
-use Rattle.plugin_options.specs.Forms.{Form, bytes, known, number, pair, pairs, ranges, ranges_from, text}
+use Rattle.plugin_options.specs.Forms.{Form, bytes, known, number, numbered, pair, pairs, part, ranges, ranges_from, text}
 use Rattle.plugin_options.specs.Options.{OptionRow, flag, operand, operands, rule_of_kind, value}
 use Rattle.plugin_options.specs.declared.option_row.OptionRow.{OptionRow as GivenRow}
 use Rattle.plugin_options.specs.declared.option_word.OptionWord.{OptionWord}
@@ -12,7 +12,7 @@ use Rattle.plugin_options.specs.declared.option_word.OptionWord.TheVariants.{Fla
 use Rattle.plugin_options.specs.declared.sign.Sign.{Sign}
 use Rattle.plugin_options.specs.declared.sign.Sign.TheVariants.{Equals, Slash}
 use Rattle.plugin_options.specs.declared.takes.Takes.{Takes}
-use Rattle.plugin_options.specs.declared.takes.Takes.TheVariants.{Bytes, Choice, Number, Pair, Pairs, Ranges, RangesFrom, Text}
+use Rattle.plugin_options.specs.declared.takes.Takes.TheVariants.{Bytes, Choice, Number, Numbered, Pair, Pairs, Part, Ranges, RangesFrom, Text}
 
 -- the character between the two numbers of a pair
 abbrev pub code_of_sign : Sign → ℕ
@@ -27,6 +27,8 @@ form_of (RangesFrom least most) = ranges_from least most
 form_of (Pair sign first second) = pair (code_of_sign sign) first second
 form_of (Pairs sign first second) = pairs (code_of_sign sign) first second
 form_of (Bytes least most) = bytes least most
+form_of (Part what) = part what
+form_of (Numbered sign range what) = numbered (code_of_sign sign) range what
 form_of (Choice names) = known (λ word. list_any (λ name. bytes_eq name.now word) names.now)
 form_of Text = text
 

@@ -6,7 +6,7 @@ use Rattle.plugin_options.specs.Joined.{read_joined}
 use Rattle.plugin_options.specs.Number.{number_within}
 
 -- both, where neither is missing
-abbrev pub both_of : Option ℕ → Option ℕ → Option (ℕ × ℕ)
+abbrev pub both_of : {X Y : Type 0} → Option X → Option Y → Option (X × Y)
 both_of (Some one) (Some other) = Some (one, other)
 both_of _ _ = None
 

@@ -9,11 +9,15 @@ mod label_list;
 mod limits;
 mod number;
 mod number_set;
+mod numbered;
+mod numbered_parts;
 mod option_row;
 mod option_word;
 mod pair_list;
 mod pairs;
 mod parsed_options;
+mod part;
+mod part_text;
 mod pid_set;
 mod ranges;
 mod refusal;
@@ -27,15 +31,20 @@ pub use commands::{command_with, new_command, with_value};
 pub use hex_text::read_bytes;
 pub use label_list::LabelList;
 pub use limits::{
-    LAST_LABEL, LAST_OFFSET, LAST_PID, MOST_NUMBER, MOST_PACKETS, MOST_PAIRS, MOST_WINDOW,
+    LAST_LABEL, LAST_OFFSET, LAST_PID, MOST_BYTES, MOST_NUMBER, MOST_PACKETS, MOST_PAIRS,
+    MOST_WINDOW,
 };
 pub use number::read_number_within;
 pub use number_set::NumberSet;
+pub use numbered::{read_all_numbered, read_numbered};
+pub use numbered_parts::NumberedParts;
 pub use option_row::{Beside, Need, OptionRow, OptionText};
 pub use option_word::OptionWord;
 pub use pair_list::PairList;
 pub use pairs::{read_pair, read_pair_list};
 pub use parsed_options::ParsedOptions;
+pub use part::Part;
+pub use part_text::read_part;
 pub use pid_set::PidSet;
 pub use ranges::read_ranges;
 pub use refusal::Refusal;

@@ -21,3 +21,6 @@ pub const MOST_WINDOW: u64 = 100_000;
 
 /// The greatest number of pairs of `remap`.
 pub const MOST_PAIRS: usize = 1000;
+
+/// The greatest number of bytes of a value that has no other limit: 2^60, which no word has.
+pub const MOST_BYTES: usize = 1 << 60;

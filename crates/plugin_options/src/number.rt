@@ -1,6 +1,14 @@
 //! Numbers as words.
-ghost use Rattle.std.specs.Prelude.{◌≡◌, ◌⊎◌, ◌≤◌, ◌^◌, IfNone, IfSome};
+ghost use Rattle.std.specs.Prelude.{◌≡◌, ◌⊎◌, ◌≤◌, ◌^◌, IfNone, IfOk, IfSome, MatchResult, false, filter_map, length, map, true};
+ghost use Rattle.std.specs.List.{All, list_all};
+ghost use Rattle.plugin_options.specs.Forms.{has_form, number as a_number};
 ghost use Rattle.plugin_options.specs.Number.{number_of, number_within, numeral};
+ghost use Rattle.plugin_options.specs.Refusal.{IsRefusedBy};
+ghost use Rattle.plugin_options.specs.declared.words_rule.WordsRule.TheVariants.{Value};
+
+use crate::refusal::Refusal;
+use crate::words_rule::WordsRule;
+use std::alloc::Global;
 
 /// The number that the digits write, where it is below 2^64; none where they are not digits.
 fn read_numeral(digits: &str, radix: u32) -> Option<u64>
@@ -37,4 +45,28 @@ pub fn read_number_within(text: &str, least: u64, most: u64) -> Option<u64>
     } else {
         None
     }
+}
+
+/// The numbers of texts in their order, each as `read_number_within` reads it; `Value` is broken where one of them is none.
+pub fn read_numbers(
+    alloc: Global,
+    texts: &[&str],
+    least: u64,
+    most: u64,
+) -> Result<Vec<u64>, Refusal>
+    ensures reads { MatchResult result
+        (λ numbers. (list_all (has_form (a_number least most)) (map (λ text. text.now) texts.now) ≡ true)
+        × (numbers.items ≡ filter_map (number_within least most) (map (λ text. text.now) texts.now)))
+        (IsRefusedBy Value (list_all (has_form (a_number least most)) (map (λ text. text.now) texts.now) ≡ false)) }
+    ensures many { IfOk result (λ numbers. length numbers.items ≡ length texts.now) }
+    ensures range { IfOk result (λ numbers. All (λ n. (least ≤ n) × (n ≤ most)) numbers.items) }
+{
+    let mut numbers = Vec::new(alloc);
+    for text in texts {
+        let Some(number) = read_number_within(text, least, most) else {
+            return Err(Refusal::Broken(WordsRule::Value));
+        };
+        numbers.push(number)?;
+    }
+    Ok(numbers)
 }

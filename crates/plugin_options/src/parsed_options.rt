@@ -4,23 +4,27 @@ ghost use Rattle.std.specs.String.{string_bytes};
 ghost use Rattle.clap.specs.Simple.{app_of};
 ghost use Rattle.clap.specs.Faults.{is_simple_and_free};
 ghost use Rattle.plugin_options.specs.NumberSet.{AllBelow};
-ghost use Rattle.plugin_options.specs.Forms.{bytes, has_form, number, pair, pairs, ranges, ranges_from, text as any_text};
+ghost use Rattle.plugin_options.specs.Forms.{bytes, has_form, number, numbered, pair, pairs, part, ranges, ranges_from, text as any_text};
 ghost use Rattle.std.specs.List.{All, filter_map, list_all};
 ghost use Rattle.plugin_options.specs.HexText.{bytes_of};
 ghost use Rattle.plugin_options.specs.Number.{number_within};
 ghost use Rattle.plugin_options.specs.Options.{findings, has_flag, has_value, is_by_words, is_formed, is_taken, read_value, value_of, values_of};
 ghost use Rattle.plugin_options.specs.Pairs.{IsPairWithin, pair_of, pairs_of};
+ghost use Rattle.plugin_options.specs.Parts.{IsNumbered, all_numbered_of, part_of};
 ghost use Rattle.plugin_options.specs.Ranges.{ranges_of, ranges_within};
 ghost use Rattle.plugin_options.specs.Refusal.{IsRefusedBy};
 ghost use Rattle.plugin_options.specs.declared.words_rule.WordsRule.TheVariants.{Shape, Value};
 
 use crate::hex_text::read_bytes;
-use crate::number::read_number_within;
+use crate::number::{read_number_within, read_numbers};
+use crate::numbered::read_all_numbered;
 use crate::pairs::{read_pair, read_pair_list, read_pairs};
+use crate::part::Part;
+use crate::part_text::read_part;
 use crate::ranges::read_ranges;
 use crate::refusal::Refusal;
 use crate::words_rule::WordsRule;
-use crate::{NumberSet, PairList};
+use crate::{NumberSet, NumberedParts, PairList};
 use clap::error::ErrorKind;
 use clap::parser::ValueSource;
 use clap::{ArgMatches, Command};
@@ -237,6 +241,48 @@ impl<'a> ParsedOptions<'a> {
         }
     }
 
+    /// The bytes of the part of an option, a code or whole descriptors; none where it is not given.
+    pub fn part(&self, alloc: Global, name: &str, what: Part) -> Result<FileBytes, Refusal>
+        ensures reads { MatchResult result
+            (λ row. (is_formed (part what) name.now self.now ≡ true)
+            × (row ≡ unwrap_or (read_value (part_of what) name.now self.now) []))
+            (IsRefusedBy Value (is_formed (part what) name.now self.now ≡ false)) }
+    {
+        let Some(text) = self.value(name) else {
+            return Ok(FileBytes::of(Vec::new(alloc)));
+        };
+        match read_part(alloc, text, what)? {
+            Some(bytes) => Ok(bytes),
+            None => Err(Refusal::Broken(WordsRule::Value)),
+        }
+    }
+
+    /// The parts of an option, joined by commas, each behind a number and a sign; an empty list where it is not given.
+    #[tactic(auto, unfolding(crate::specs::Parts::all_numbered_of))]
+    pub fn numbered_parts(
+        &self,
+        alloc: Global,
+        name: &str,
+        sign: char,
+        range: (u64, u64),
+        what: Part,
+    ) -> Result<NumberedParts, Refusal>
+        requires { sign < 128 }
+        ensures reads { MatchResult result
+            (λ list. (is_formed (numbered sign range what) name.now self.now ≡ true)
+            × (list ≡ unwrap_or (read_value (all_numbered_of sign range what) name.now self.now) []))
+            (IsRefusedBy Value (is_formed (numbered sign range what) name.now self.now ≡ false)) }
+        ensures range { IfOk result (All (IsNumbered range what)) }
+    {
+        let Some(text) = self.value(name) else {
+            return Ok(NumberedParts::of(Vec::new(alloc)));
+        };
+        match read_all_numbered(alloc, text, sign, range, what)? {
+            Some(list) => Ok(list),
+            None => Err(Refusal::Broken(WordsRule::Value)),
+        }
+    }
+
     /// The operands, of which there may be any number; `None` where there is none.
     fn values(&self, name: &str) -> Option<&[&'a str]>
         ensures { unwrap_or (option_map (λ texts. map (λ text. text.now) texts.now) result) [] ≡ values_of name.now self.now }
@@ -274,6 +320,27 @@ impl<'a> ParsedOptions<'a> {
         match self.values(name) {
             Some(texts) => read_pairs(alloc, texts, sign, first, second),
             None => Ok(PairList::of(Vec::new(alloc))),
+        }
+    }
+
+    /// The operands as numbers in their order, from a least to a greatest.
+    pub fn numbers(
+        &self,
+        alloc: Global,
+        name: &str,
+        least: u64,
+        most: u64,
+    ) -> Result<Vec<u64>, Refusal>
+        ensures reads { MatchResult result
+            (λ numbers. (list_all (has_form (number least most)) (values_of name.now self.now) ≡ true)
+            × (numbers.items ≡ filter_map (number_within least most) (values_of name.now self.now)))
+            (IsRefusedBy Value (list_all (has_form (number least most)) (values_of name.now self.now) ≡ false)) }
+        ensures many { IfOk result (λ numbers. length numbers.items ≡ length (values_of name.now self.now)) }
+        ensures range { IfOk result (λ numbers. All (λ n. (least ≤ n) × (n ≤ most)) numbers.items) }
+    {
+        match self.values(name) {
+            Some(texts) => read_numbers(alloc, texts, least, most),
+            None => Ok(Vec::new(alloc)),
         }
     }
 

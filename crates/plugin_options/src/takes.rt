@@ -1,4 +1,5 @@
 //! What options and operands take.
+use crate::part::Part;
 use crate::sign::Sign;
 
 /// What an option takes, or what an operand is.
@@ -16,6 +17,10 @@ pub enum Takes {
     Pairs(Sign, (u64, u64), (u64, u64)),
     /// Bytes, two hexadecimal digits each, from a least number of them to a greatest.
     Bytes(usize, usize),
+    /// A code of three characters, or whole descriptors as hexadecimal digits.
+    Part(Part),
+    /// Such parts, each behind a number with its least and its greatest and a sign, joined by commas.
+    Numbered(Sign, (u64, u64), Part),
     /// One of these words.
     Choice(&'static [&'static str]),
     /// Any text.
