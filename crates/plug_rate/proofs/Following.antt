@@ -9,7 +9,7 @@ use Rattle.plugin_trait.specs.PlacedLines.{placed_between}
 use Rattle.plugin_notes.specs.Notes.{notes_after}
 use Rattle.plugin_notes.specs.NotesKept.{CanFold, Folds, TakesBelow, notes_below}
 use Rattle.plugin_notes.proofs.Keeping as keeping
-use Rattle.plug_rate.proofs.Flat.{given_flat}
+use Rattle.plugin_notes.proofs.Flat.{given_flat}
 use Rattle.plug_clock.specs.StreamClock.{clock_met}
 use Rattle.plug_clock.specs.declared.stream_clock.StreamClock.{StreamClock}
 use Rattle.plug_rate.specs.Measures.{is_counted, judged_by, judged_on, place_of}

@@ -2,6 +2,5 @@ pub mod Rating
 pub mod Measuring
 pub mod Metering
 pub mod Adding
-pub mod Flat
 pub mod Following
 mod Rows

@@ -18,7 +18,7 @@ use Rattle.plug_times.specs.TimestampsState.{Follows}
 use Rattle.plug_times.specs.declared.stamp.Stamp.{Stamp}
 use Rattle.plug_times.specs.declared.step_row.StepRow.{StepRow}
 use Rattle.plug_times.specs.declared.timestamps_conf.TimestampsConf.{TimestampsConf}
-use Rattle.plug_times.proofs.Flat.{given_flat}
+use Rattle.plugin_notes.proofs.Flat.{given_flat}
 use Rattle.plug_times.proofs.Telling.{on_pids, one_note, stamp_lines}
 
 module _ (conf : TimestampsConf) (notes : List Stamp) (row : StepRow) (history : List Cell) (mark : ℕ)

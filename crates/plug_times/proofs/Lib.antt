@@ -1,6 +1,5 @@
 pub mod StampBytes
 pub mod Telling
-pub mod Flat
 pub mod Stepping
 pub mod Rowing
 pub mod Following

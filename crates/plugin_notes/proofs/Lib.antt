@@ -1,3 +1,4 @@
+pub mod Flat
 pub mod FoldingSteps
 pub mod Keeping
 pub mod Noting

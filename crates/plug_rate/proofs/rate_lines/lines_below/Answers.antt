@@ -1,7 +1,7 @@
 use Rattle.std.proofs.Common.{arith}
 use Rattle.plug_rate.specs.Measures.{place_of}
 use Rattle.plug_rate.specs.RateTexts.{lines_of_judged}
-use Rattle.plug_rate.proofs.Flat.{flat_more}
+use Rattle.plugin_notes.proofs.Flat.{flat_more}
 use Rattle.plug_rate.proofs.rate_lines.lines_below.Goals as goal
 
 pub loop-note-preserved : goal.loop-note-preserved

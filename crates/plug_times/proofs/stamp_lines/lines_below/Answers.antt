@@ -1,6 +1,6 @@
 use Rattle.std.proofs.Common.{arith}
 use Rattle.plug_times.specs.StampTexts.{lines_of_stamp, place_of}
-use Rattle.plug_times.proofs.Flat.{flat_more}
+use Rattle.plugin_notes.proofs.Flat.{flat_more}
 use Rattle.plug_times.proofs.stamp_lines.lines_below.Goals as goal
 
 pub loop-note-preserved : goal.loop-note-preserved
