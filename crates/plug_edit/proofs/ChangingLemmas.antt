@@ -5,7 +5,7 @@ use Rattle.std.specs.List.{position, position_or_len}
 use Rattle.std.proofs.lemmas.List.Folds.{find_at}
 use Rattle.std.proofs.lemmas.List.Sums.{fails_before_first, position_or_len_is, prefix_len_stops}
 use Rattle.plug_psi.proofs.KeptView.{chosen}
-use Rattle.plug_edit.specs.Changing.{changed_first}
+use Rattle.plug_edit.specs.Changing.{changed_first, changed_one}
 
 found-step :
     {A : Type 0} (test : A → Bool) (t x : A) (xs : List A) (b : Bool) →
@@ -202,3 +202,69 @@ pub find_view :
 find_view view test test' same [] = refl
 find_view view test test' same (x ∷ xs) =
     found-view view (test x) (test' (view x)) x (find test' (map view xs)) (find test xs) (same x) (find_view view test test' same xs)
+
+-- ---- where no new one is added
+
+one-step :
+    {A B : Type 0} (view : A → B) (test' : B → Bool) (change' : B → B) (y d x : A) (xs : List A) (p : ℕ) (b c : Bool) → b ≡ c →
+    (p < length xs → view y ≡ change' (view (slice_index_or xs p d)) → map view (slice_set xs p y) ≡ changed_one test' change' (map view xs)) →
+    cond (not b) (1 + p) 0 < length (x ∷ xs) → view y ≡ change' (view (slice_index_or (x ∷ xs) (cond (not b) (1 + p) 0) d)) →
+    map view (slice_set (x ∷ xs) (cond (not b) (1 + p) 0) y) ≡ (if c then change' (view x) ∷ map view xs else view x ∷ changed_one test' change' (map view xs))
+one-step view test' change' y d x xs p true true same so_far inside made = ap (λ v. v ∷ map view xs) made
+one-step view test' change' y d x xs p true false same so_far inside made = cc
+one-step view test' change' y d x xs p false true same so_far inside made = cc
+one-step view test' change' y d x xs p false false same so_far inside made =
+    let next : 1 + p ≡ suc p = omega arith in
+    ap (λ n. map view (slice_set (x ∷ xs) n y)) next
+    ∙ ap (λ l. view x ∷ l) (so_far (omega (arith, inside)) (made ∙ ap (λ n. change' (view (slice_index_or (x ∷ xs) n d))) next))
+
+one-seen :
+    {A B : Type 0} (view : A → B) (test : A → Bool) (test' : B → Bool) (change' : B → B) (y d : A) → ((x : A) → test x ≡ test' (view x)) →
+    (xs : List A) → position_or_len test xs < length xs → view y ≡ change' (view (slice_index_or xs (position_or_len test xs) d)) →
+    map view (slice_set xs (position_or_len test xs) y) ≡ changed_one test' change' (map view xs)
+unfolding changed_one
+one-seen view test test' change' y d same [] inside made = absurd (omega (arith, inside))
+one-seen view test test' change' y d same (x ∷ xs) inside made =
+    one-step view test' change' y d x xs (position_or_len test xs) (test x) (test' (view x)) (same x)
+    (one-seen view test test' change' y d same xs) inside made
+
+-- what is seen of a list in which the first that passes was changed
+pub one_seen_at :
+    {A B : Type 0} (view : A → B) (test : A → Bool) (test' : B → Bool) (change' : B → B) (y d : A) → ((x : A) → test x ≡ test' (view x)) →
+    (xs : List A) (place : ℕ) → Some place ≡ position test xs → view y ≡ change' (view (slice_index_or xs place d)) →
+    map view (slice_set xs place y) ≡ changed_one test' change' (map view xs)
+one_seen_at view test test' change' y d same xs place told made =
+    let found = place_found test xs place told in
+    ap (λ i. map view (slice_set xs i y)) found.0
+    ∙ one-seen view test test' change' y d same xs (omega (arith, found.0, found.1)) (made ∙ ap (λ i. change' (view (slice_index_or xs i d))) found.0)
+
+stays-step :
+    {A B : Type 0} (view : A → B) (test' : B → Bool) (change' : B → B) (x : A) (xs : List A) (p : ℕ) (b c : Bool) → b ≡ c →
+    (length xs ≤ p → map view xs ≡ changed_one test' change' (map view xs)) → length (x ∷ xs) ≤ cond (not b) (1 + p) 0 →
+    map view (x ∷ xs) ≡ (if c then change' (view x) ∷ map view xs else view x ∷ changed_one test' change' (map view xs))
+stays-step view test' change' x xs p true c same so_far none = absurd (omega (arith, none))
+stays-step view test' change' x xs p false true same so_far none = cc
+stays-step view test' change' x xs p false false same so_far none = ap (λ l. view x ∷ l) (so_far (omega (arith, none)))
+
+stays :
+    {A B : Type 0} (view : A → B) (test : A → Bool) (test' : B → Bool) (change' : B → B) → ((x : A) → test x ≡ test' (view x)) →
+    (xs : List A) → length xs ≤ position_or_len test xs → map view xs ≡ changed_one test' change' (map view xs)
+unfolding changed_one
+stays view test test' change' same [] none = refl
+stays view test test' change' same (x ∷ xs) none =
+    stays-step view test' change' x xs (position_or_len test xs) (test x) (test' (view x)) (same x) (stays view test test' change' same xs) none
+
+-- what is seen of a list in which none passes
+pub stays_seen :
+    {A B : Type 0} (view : A → B) (test : A → Bool) (test' : B → Bool) (change' : B → B) → ((x : A) → test x ≡ test' (view x)) →
+    (xs : List A) → None ≡ position test xs → map view xs ≡ changed_one test' change' (map view xs)
+stays_seen view test test' change' same xs told = stays view test test' change' same xs (place_none test xs told)
+
+-- what is found passes the test
+pub found_passes : {A : Type 0} (test : A → Bool) (xs : List A) (x : A) → find test xs ≡ Some x → test x ≡ true
+found_passes test [] x e = cc
+found_passes test (y ∷ ys) x e = go (test y) refl (λ f. found_passes test ys x f) e
+  where
+    go : (b : Bool) → test y ≡ b → (find test ys ≡ Some x → test x ≡ true) → cond b (Some y) (find test ys) ≡ Some x → test x ≡ true
+    go true h later f = let same : x ≡ y = cc in ap test same ∙ h
+    go false h later f = later f

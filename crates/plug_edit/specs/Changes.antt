@@ -31,7 +31,7 @@ change_cat conf run = changed_current cat_page (edited_cat conf) (current_in (re
 
 -- what `pmt` makes of a PMT
 abbrev pub change_pmt : EditPmtConf → List (List ℕ) → Change
-change_pmt conf run = changed_current pmt_page (λ table. Some (edited_pmt conf table)) (current_in (read_run pmt_page run))
+change_pmt conf run = changed_current pmt_page (edited_pmt conf) (current_in (read_run pmt_page run))
 
 -- what `nit` makes of a NIT of the actual network
 abbrev pub change_nit : EditNitConf → List (List ℕ) → Change

@@ -8,6 +8,7 @@ pub mod PatEdit
 pub mod CatSettings
 pub mod CatEdit
 pub mod PmtSettings
+pub mod PmtChanges
 pub mod PmtEdit
 pub mod ServiceChange
 pub mod SdtSettings
@@ -18,6 +19,7 @@ pub use Rattle.plug_psi.specs.TableChange
 pub mod Changes
 pub mod EditRule
 pub mod EditState
+pub mod PmtRule
 pub mod EditWords
 pub mod PatWords
 pub mod CatWords

@@ -1,7 +1,9 @@
 -- The edit of a PMT.
 -- ISO/IEC 13818-1, 2.4.4.8: a component has a stream_type, an elementary_PID and descriptors. The edit is this project's
--- own rule: components are removed, then others are added, then PIDs are moved, then PCR_PID and version are set.
-use Rattle.std.specs.Prelude.{ℕ, Bool, List, [], ◌∷◌, filter, fold, map, nat_eq, not, unwrap_or, if◌then◌else◌}
+-- own rule: components are removed, then others are added, then PIDs are moved, then PCR_PID is set, then descriptors are
+-- taken out and put in, then the version is set.
+use Rattle.std.specs.Prelude.{ℕ, Bool, List, [], ◌∷◌, filter, fold, map, nat_eq, not, option_map, Option, unwrap_or, if◌then◌else◌}
+use Rattle.ts_bits.specs.TaggedBody.{TaggedBody}
 use Rattle.ts_fields.specs.Layout.{number}
 use Rattle.ts_table_rows.specs.TableValues.{ItemHolding, TableHolding}
 use Rattle.ts_psi.specs.declared.pmt.Component.{Component}
@@ -9,6 +11,7 @@ use Rattle.plugin_options.specs.NumberSet.{has_number}
 use Rattle.plug_edit.specs.Changing.{changed_first}
 pub use Rattle.plug_psi.specs.NumbersHeld.{component_pid}
 use Rattle.plug_psi.specs.NumbersHeld.{number_at}
+use Rattle.plug_edit.specs.PmtChanges.{changed_components, changed_program}
 use Rattle.plug_edit.specs.Versions.{edited_version}
 use Rattle.plug_edit.specs.declared.pmt_conf.EditPmtConf.{EditPmtConf}
 
@@ -53,18 +56,26 @@ moved_by pid pairs = fold moved pid pairs
 abbrev pub moved_component : List (ℕ × ℕ) → ItemHolding → ItemHolding
 moved_component pairs component = with_pid (moved_by (component_pid component) pairs) component
 
--- the components after the edit
-abbrev pub edited_components : EditPmtConf → List ItemHolding → List ItemHolding
-edited_components conf components =
+-- the components after their PIDs are edited
+abbrev pub edited_pids : EditPmtConf → List ItemHolding → List ItemHolding
+edited_pids conf components =
     map (moved_component conf.move_pid) (with_components (without_components conf.remove_pid components) conf.add_pid)
 
--- a PMT after the edit
-abbrev pub edited_pmt : EditPmtConf → TableHolding → TableHolding
-edited_pmt conf table = record {
+-- the components after the edit
+abbrev pub edited_components : EditPmtConf → List ItemHolding → List ItemHolding
+edited_components conf components = changed_components conf.changes (edited_pids conf components)
+
+-- a PMT after the edit with these descriptors of the program
+abbrev pub pmt_with : EditPmtConf → TableHolding → List TaggedBody → TableHolding
+pmt_with conf table descriptors = record {
   head = record table.head { version = edited_version conf.new_version conf.increment_version table.head.version };
   body = record {
     values = number (unwrap_or conf.pcr_pid (moved_by (number_at table.body.values 0) conf.move_pid)) ∷ [];
-    descriptors = table.body.descriptors;
+    descriptors = descriptors;
     items = edited_components conf table.body.items;
   };
 }
+
+-- a PMT after the edit; none if a CA descriptor would exceed 255 bytes
+abbrev pub edited_pmt : EditPmtConf → TableHolding → Option TableHolding
+edited_pmt conf table = option_map (pmt_with conf table) (changed_program conf.changes table.body.descriptors)

@@ -1,15 +1,33 @@
 -- The options of `pmt`, and its settings from their values.
 -- This project's own rule.
-use Rattle.std.specs.Prelude.{◌∷◌, List, codes, unwrap_or}
+use Rattle.std.specs.Prelude.{◌&&◌, ◌||◌, ◌++◌, [], ◌∷◌, Bool, List, codes, not, unwrap_or}
 use Rattle.clap.specs.Walk.{Row}
 use Rattle.plugin_options.specs.declared.limits.TheConstants.{LAST_PID}
-use Rattle.plugin_options.specs.Forms.{ranges}
-use Rattle.plugin_options.specs.Options.{OptionRow, has_flag, has_value, value}
+use Rattle.plugin_options.specs.declared.part.Part.TheVariants.{Code, Descriptors}
+use Rattle.plugin_options.specs.Forms.{part, ranges}
+use Rattle.plugin_options.specs.Options.{OptionRow, flag, has_flag, has_value, value}
 use Rattle.plugin_options.specs.OptionTable.{OptionTable}
-use Rattle.plug_edit.specs.EditWords.{number_found, number_row, pairs_found, pairs_row, ranges_found, version_rows}
+use Rattle.plug_edit.specs.EditWords.{number_found, number_row, numbered_found, numbered_row, pairs_found, pairs_row, part_found, ranges_found, version_rows}
 use Rattle.plug_edit.specs.Versions.{versions_agree}
-use Rattle.plug_edit.specs.declared.limits.TheConstants.{LAST_TYPE, LAST_VERSION}
+use Rattle.plug_edit.specs.declared.limits.TheConstants.{LAST_ID, LAST_TAG, LAST_TYPE, LAST_VERSION}
+use Rattle.plug_edit.specs.declared.pmt_changes.PmtChanges.{PmtChanges}
 use Rattle.plug_edit.specs.declared.pmt_conf.EditPmtConf.{EditPmtConf}
+
+-- the options of descriptors
+abbrev pub change_rows : List OptionRow
+change_rows = record { name = codes "remove-descriptor"; kind = value (ranges LAST_TAG) }
+    ∷ pairs_row (codes "remove-pid-descriptor") (0, LAST_PID) (0, LAST_TAG)
+    ∷ numbered_row (codes "language") LAST_PID Code
+    ∷ pairs_row (codes "add-ca") (0, LAST_ID) (0, LAST_PID)
+    ∷ record { name = codes "add-descriptor"; kind = value (part Descriptors) }
+    ∷ numbered_row (codes "add-pid-descriptor") LAST_PID Descriptors
+    ∷ []
+
+-- the options of dropped packets, and of the version
+abbrev pub last_rows : List OptionRow
+last_rows = record { name = codes "drop"; kind = flag }
+    ∷ record { name = codes "stuffing"; kind = flag }
+    ∷ version_rows
 
 -- the options
 abbrev pub pmt_rows : List OptionRow
@@ -18,7 +36,18 @@ pmt_rows = number_row (codes "pmt-pid") LAST_PID
     ∷ record { name = codes "remove-pid"; kind = value (ranges LAST_PID) }
     ∷ pairs_row (codes "move-pid") (0, LAST_PID) (0, LAST_PID)
     ∷ number_row (codes "pcr-pid") LAST_PID
-    ∷ version_rows
+    ∷ (change_rows ++ last_rows)
+
+-- the changes of descriptors from the values that were found
+abbrev pub changes_found : List Row → PmtChanges
+changes_found found = record {
+  remove_descriptor = ranges_found (codes "remove-descriptor") LAST_TAG found;
+  remove_pid_descriptor = pairs_found (codes "remove-pid-descriptor") (0, LAST_PID) (0, LAST_TAG) found;
+  language = numbered_found (codes "language") LAST_PID Code found;
+  add_ca = pairs_found (codes "add-ca") (0, LAST_ID) (0, LAST_PID) found;
+  add_descriptor = part_found (codes "add-descriptor") Descriptors found;
+  add_pid_descriptor = numbered_found (codes "add-pid-descriptor") LAST_PID Descriptors found;
+}
 
 -- the settings from the values that were found
 abbrev pub pmt_settings : List Row → EditPmtConf
@@ -28,9 +57,22 @@ pmt_settings found = record {
   remove_pid = ranges_found (codes "remove-pid") LAST_PID found;
   move_pid = pairs_found (codes "move-pid") (0, LAST_PID) (0, LAST_PID) found;
   pcr_pid = number_found (codes "pcr-pid") LAST_PID found;
+  changes = changes_found found;
+  drop = has_flag (codes "drop") found;
+  stuffing = has_flag (codes "stuffing") found;
   new_version = number_found (codes "new-version") LAST_VERSION found;
   increment_version = has_flag (codes "increment-version") found;
 }
+
+-- packets are dropped where components are removed alone, and null packets put where packets are dropped
+abbrev pub drops_agree : Bool → Bool → Bool → Bool
+drops_agree removes drops stuffs = (removes || not drops) && (drops || not stuffs)
+
+-- the options that were found can be given together
+abbrev pub pmt_together : List Row → Bool
+pmt_together found =
+    versions_agree (number_found (codes "new-version") LAST_VERSION found) (has_flag (codes "increment-version") found)
+    && drops_agree (has_value (codes "remove-pid") found) (has_flag (codes "drop") found) (has_flag (codes "stuffing") found)
 
 -- the PID of the tables has to be given
 abbrev pub pmt : OptionTable EditPmtConf
@@ -38,5 +80,5 @@ pmt = record {
   rows = pmt_rows;
   has_needed = has_value (codes "pmt-pid");
   settings = pmt_settings;
-  go_together = λ found. versions_agree (pmt_settings found).new_version (pmt_settings found).increment_version;
+  go_together = pmt_together;
 }

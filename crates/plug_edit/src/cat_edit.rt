@@ -88,7 +88,7 @@ fn is_removed(
 }
 
 /// The descriptors, and after them the CA descriptors that are added; `None` if one would exceed 255 bytes.
-fn with_added(
+pub(crate) fn with_added(
     alloc: Global,
     descriptors: Vec<Descriptor>,
     added: &[(u64, u64)],

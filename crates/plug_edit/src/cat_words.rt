@@ -76,7 +76,7 @@ static CAT: [OptionRow; 5] = [
 ];
 
 // The CA descriptors that are added.
-fn added_systems(alloc: Global, found: &ParsedOptions) -> Result<PairList, Refusal>
+pub(crate) fn added_systems(alloc: Global, found: &ParsedOptions) -> Result<PairList, Refusal>
     ensures reads { MatchResult result
         (λ list. (is_formed (pairs slash (0, LAST_ID) (0, LAST_PID)) (codes "add-ca") found.now ≡ true)
         × (list ≡ pairs_found (codes "add-ca") (0, LAST_ID) (0, LAST_PID) found.now))

@@ -6,6 +6,7 @@
 ghost use Rattle.std.specs.Prelude.{◌≡◌, ◌≤◌, ◌<◌, [], None, IfOk};
 ghost use Rattle.plug_psi.specs.EditorStands.{StandsFor, edit_of};
 ghost use Rattle.plug_edit.specs.EditRule.{edit_rule};
+ghost use Rattle.plug_edit.specs.EditState.{StepsStand, rule_of};
 
 use plug_psi::{Changes, Editor, TableEdit, Unedited};
 use plugin_trait::{FirstFind, Outcome, Plugin, Silent, Steps};
@@ -38,13 +39,26 @@ pub fn new_edit_pid<E: TableEdit + Drop>(
     ensures fresh { IfOk result (λ plugin. ⟦<EditPid<E> as Plugin>⟧.stands_for plugin [] 0) }
     ensures preallocated { IfOk result (λ plugin. ⟦<EditPid<E> as Plugin>⟧.preallocated plugin ≡ None) }
 {
+    let steps = new_steps(alloc, pid, edit)?;
+    Ok(Silent { steps })
+}
+
+/// The steps of a new editor, which has processed no packet. On PID 8191 nothing is edited.
+pub(crate) fn new_steps<E: TableEdit + Drop>(
+    alloc: Global,
+    pid: u16,
+    edit: E,
+) -> Result<EditPidSteps<E>, AllocError>
+    requires { pid ≤ NULL_PID }
+    ensures rule { IfOk result (λ steps. rule_of E.change steps ≡ edit_rule pid (E.change edit)) }
+    ensures fresh { IfOk result (λ steps. StepsStand E.change steps []) }
+    ensures pid { IfOk result (λ steps. steps.pid ≡ pid) }
+{
     let editor = editor_on(alloc, pid, edit)?;
-    Ok(Silent {
-        steps: EditPidSteps {
-            pid,
-            editor,
-            found: FirstFind::none(),
-        },
+    Ok(EditPidSteps {
+        pid,
+        editor,
+        found: FirstFind::none(),
     })
 }
 
@@ -68,16 +82,23 @@ impl<E: TableEdit + Drop> EditPidSteps<E> {
     pub fn add_changes(&self, changes: &mut Changes) -> Result<(), AllocError> {
         self.editor.add_changes(self.pid, changes)
     }
+
+    /// The PID whose tables are edited.
+    #[inline]
+    pub(crate) fn pid(&self) -> u16
+        ensures { result ≡ self.now.pid }
+    {
+        self.pid
+    }
 }
 
 impl<E: TableEdit + Drop> Steps for EditPidSteps<E> {
     ghost use Rattle.std.specs.Prelude.{◌≡◌, ◌≢◌, ◌<◌, None, false, refl};
-    ghost use Rattle.ts_packet.specs.Cells.{Live};
+    ghost use Rattle.ts_packet.specs.Cells.{Dropped, Live};
     ghost use Rattle.chain_model.specs.declared.positions.TheConstants.{POSITION_LIMIT};
     ghost use Rattle.plugin_trait.specs.Steps.{MeetsCells, Meets, Tells, left_of};
     ghost use Rattle.plugin_trait.specs.Unmarked.{unmarked};
     ghost use Rattle.plug_edit.specs.EditRule.{is_taken};
-    ghost use Rattle.plug_edit.specs.EditState.{StepsStand, rule_of};
 
     ghost rule = { λ s. rule_of E.change s };
 
@@ -85,8 +106,8 @@ impl<E: TableEdit + Drop> Steps for EditPidSteps<E> {
 
     ghost preallocated = { λ _. None };
 
-    /// The clauses are those of `Steps`, whose ghost members have no names here, and one more: a packet that the editor does
-    /// not take needs no memory.
+    /// The clauses are those of `Steps`, whose ghost members have no names here, and two more: the PID stays, and a packet
+    /// that the editor does not take needs no memory.
     fn step(&mut self, at: u64, packet: &mut Packet, _labels: &mut Labels) -> Outcome
         requires met { MeetsCells (unmarked (StepsStand E.change self.old)) at }
         requires in_range { at < POSITION_LIMIT }
@@ -95,6 +116,7 @@ impl<E: TableEdit + Drop> Steps for EditPidSteps<E> {
         ensures meets { Meets (unmarked (StepsStand E.change self.old)) (unmarked (StepsStand E.change self.new)) at
             (Live packet.old _labels.old) result }
         ensures same_rule { rule_of E.change self.new ≡ rule_of E.change self.old }
+        ensures same_pid { self.new.pid ≡ self.old.pid }
         ensures quiet { is_taken self.old.pid packet.old ≡ false → result ≢ Outcome.NoMemory }
     {
         if packet.pid() != self.pid {
@@ -112,7 +134,14 @@ impl<E: TableEdit + Drop> Steps for EditPidSteps<E> {
         }
     }
 
-    fn pass_over(&mut self, _at: u64) {}
+    fn pass_over(&mut self, _at: u64)
+        requires met { MeetsCells (unmarked (StepsStand E.change self.old)) _at }
+        requires in_range { _at < POSITION_LIMIT }
+        ensures meets { Meets (unmarked (StepsStand E.change self.old)) (unmarked (StepsStand E.change self.new)) _at
+            Dropped Outcome.Pass }
+        ensures same_rule { rule_of E.change self.new ≡ rule_of E.change self.old }
+        ensures same_pid { self.new.pid ≡ self.old.pid }
+    {}
 
     fn has_fault(&self, cut: u64) -> bool {
         self.found.is_none_below(cut)

@@ -14,3 +14,6 @@ pub const LAST_STATUS: u64 = 7;
 
 /// The greatest free_CA_mode.
 pub const LAST_MODE: u64 = 1;
+
+/// The greatest descriptor_tag.
+pub const LAST_TAG: u64 = 255;

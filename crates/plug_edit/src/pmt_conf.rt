@@ -2,6 +2,7 @@
 
 ghost use Rattle.std.specs.Prelude.{◌≡◌, IfOk};
 
+use crate::pmt_changes::PmtChanges;
 use plugin_options::{NumberSet, PairList};
 use std::alloc::{AllocError, Global};
 
@@ -18,6 +19,12 @@ pub struct EditPmtConf {
     pub move_pid: PairList,
     /// The new PCR_PID.
     pub pcr_pid: Option<u64>,
+    /// What is changed of descriptors.
+    pub changes: PmtChanges,
+    /// Whether the packets on the PIDs whose components are removed are dropped. Those on the PID of the PMTs never are.
+    pub drop: bool,
+    /// Whether null packets take the places of the packets that are dropped.
+    pub stuffing: bool,
     /// The new version, 0 to 31.
     pub new_version: Option<u64>,
     /// Whether the version is incremented; after 31 comes 0.
@@ -35,6 +42,9 @@ impl EditPmtConf {
             remove_pid: NumberSet::of(Vec::from_slice(alloc, self.remove_pid.as_slice())?),
             move_pid: PairList::of(Vec::from_slice(alloc, self.move_pid.as_slice())?),
             pcr_pid: self.pcr_pid,
+            changes: self.changes.copy(alloc)?,
+            drop: self.drop,
+            stuffing: self.stuffing,
             new_version: self.new_version,
             increment_version: self.increment_version,
         })

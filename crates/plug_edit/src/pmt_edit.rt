@@ -1,6 +1,6 @@
 //! The edit of a PMT (ISO/IEC 13818-1, 2.4.4.8).
 
-ghost use Rattle.std.specs.Prelude.{◌≡◌, ◌<◌, IfOk, IfSome, OnOk, length, map};
+ghost use Rattle.std.specs.Prelude.{◌≡◌, ◌<◌, IfOk, IfSome, OnOk, length, map, option_map};
 ghost use Rattle.std.specs.List.{All, position};
 ghost use Rattle.ts_packet.specs.declared.numbers.TheConstants.{PID_COUNT};
 ghost use Rattle.ts_psi.specs.PsiTables.{component_item, pmt_held};
@@ -8,6 +8,8 @@ ghost use Rattle.plug_edit.specs.PmtEdit;
 ghost use Rattle.plug_edit.specs.PmtEdit.{edited_pmt, is_on, moved, moved_by, moved_component, with_component, with_components, without_components};
 ghost use Rattle.plug_edit.specs.PmtSettings.{IsAddedComponent, IsValidPmt, IsMove};
 
+use crate::change_components::change_components;
+use crate::change_program::change_program;
 use crate::numbers::pid_or;
 use crate::pmt_conf::EditPmtConf;
 use crate::versions::version_after;
@@ -16,11 +18,12 @@ use std::alloc::{AllocError, Global};
 use ts_bits::DescriptorList;
 use ts_psi::{Component, ComponentList, Pmt};
 
-/// A PMT after the edit of `pmt`: components are removed, others are added, PIDs are moved, and PCR_PID and version are
-/// set. After `AllocError` nothing of the PMT is left.
-pub fn edit_pmt(alloc: Global, conf: &EditPmtConf, pmt: Pmt) -> Result<Pmt, AllocError>
+/// A PMT after the edit of `pmt`: components are removed, others are added, PIDs are moved, PCR_PID is set, descriptors are
+/// taken out and put in, and the version is set. `None` if a CA descriptor would exceed 255 bytes. After `AllocError`
+/// nothing of the PMT is left.
+pub fn edit_pmt(alloc: Global, conf: &EditPmtConf, pmt: Pmt) -> Result<Option<Pmt>, AllocError>
     requires { IsValidPmt conf.now }
-    ensures { IfOk result (λ edited. pmt_held edited ≡ edited_pmt conf.now (pmt_held pmt)) }
+    ensures { IfOk result (λ edited. option_map pmt_held edited ≡ edited_pmt conf.now (pmt_held pmt)) }
 {
     let Pmt {
         version,
@@ -30,19 +33,37 @@ pub fn edit_pmt(alloc: Global, conf: &EditPmtConf, pmt: Pmt) -> Result<Pmt, Allo
         descriptors,
         components,
     } = pmt;
-    let mut components = components.into_vec();
-    remove_components(&mut components, &conf.remove_pid);
-    add_components(alloc, &mut components, conf.add_pid.as_slice())?;
-    let components = moved_components(alloc, components, conf.move_pid.as_slice())?;
+    let Some(descriptors) = change_program(alloc, &conf.changes, descriptors)? else {
+        return Ok(None);
+    };
+    let components = edited_pids(alloc, conf, components.into_vec())?;
+    let components = change_components(alloc, &conf.changes, components)?;
     let pcr_pid = pid_or(conf.pcr_pid, moved_pid(pcr_pid, conf.move_pid.as_slice()));
-    Ok(Pmt {
+    Ok(Some(Pmt {
         version: version_after(conf.new_version, conf.increment_version, version),
         current,
         service_id,
         pcr_pid,
         descriptors,
         components: ComponentList::of(components),
-    })
+    }))
+}
+
+/// The components with some removed, others added, and PIDs moved.
+fn edited_pids(
+    alloc: Global,
+    conf: &EditPmtConf,
+    components: Vec<Component>,
+) -> Result<Vec<Component>, AllocError>
+    requires { IsValidPmt conf.now }
+    ensures { IfOk result (λ v. map component_item v.items
+        ≡ PmtEdit.edited_pids conf.now (map component_item components.items)) }
+{
+    let mut components = components;
+    remove_components(&mut components, &conf.remove_pid);
+    add_components(alloc, &mut components, conf.add_pid.as_slice())?;
+    let components = moved_components(alloc, components, conf.move_pid.as_slice())?;
+    Ok(components)
 }
 
 /// Removes the components whose PIDs are listed.
@@ -102,7 +123,7 @@ fn new_component(alloc: Global, stream_type: u8, pid: u16) -> Component
 }
 
 /// The index of the first component on a PID.
-fn place_of(components: &[Component], pid: u16) -> Option<usize>
+pub(crate) fn place_of(components: &[Component], pid: u16) -> Option<usize>
     ensures place { result ≡ position (is_on pid) components.now }
     ensures in_range { IfSome result (λ i. i < length components.now) }
 {

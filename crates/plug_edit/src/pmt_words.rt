@@ -7,24 +7,26 @@ ghost use Rattle.plugin_options.specs.Options.{is_formed};
 ghost use Rattle.plugin_options.specs.Refusal.{IsRefusedBy, ReadsParsed};
 ghost use Rattle.plugin_options.specs.declared.words_rule.WordsRule.TheVariants.{Value};
 ghost use Rattle.plugin_options.specs.declared.limits.TheConstants.{LAST_PID};
-ghost use Rattle.plug_edit.specs.EditWords.{pairs_found, slash};
+ghost use Rattle.plug_edit.specs.EditWords.{number_found, pairs_found, slash};
 ghost use Rattle.plug_edit.specs.PmtSettings.{IsAddedComponent, IsValidPmt, IsMove};
-ghost use Rattle.plug_edit.specs.PmtWords.{pmt};
-ghost use Rattle.plug_edit.specs.declared.limits.TheConstants.{LAST_TYPE};
+ghost use Rattle.plug_edit.specs.PmtWords;
+ghost use Rattle.plug_edit.specs.PmtWords.{pmt, pmt_together};
+ghost use Rattle.plug_edit.specs.declared.limits.TheConstants.{LAST_TYPE, LAST_VERSION};
 
 use crate::edit_words::number_up_to;
-use crate::limits::{LAST_TYPE, LAST_VERSION};
+use crate::limits::{LAST_ID, LAST_TAG, LAST_TYPE, LAST_VERSION};
+use crate::pmt_change_words::changes_of;
 use crate::pmt_conf::EditPmtConf;
 use crate::versions::versions_agree;
 use plugin_entry::{PluginHelp, PluginSettings};
 use plugin_options::{
-    Beside, LAST_PID, Need, OptionRow, OptionText, OptionWord, PairList, ParsedOptions, Refusal,
-    Sign, Takes, WordsRule,
+    Beside, LAST_PID, Need, OptionRow, OptionText, OptionWord, PairList, ParsedOptions, Part,
+    Refusal, Sign, Takes, WordsRule,
 };
 use std::alloc::Global;
 
 // The options of `pmt`.
-static PMT: [OptionRow; 7] = [
+static PMT: [OptionRow; 15] = [
     OptionRow {
         word: OptionWord::Value("pmt-pid", Takes::Number(0, LAST_PID)),
         text: OptionText {
@@ -77,6 +79,90 @@ static PMT: [OptionRow; 7] = [
         },
     },
     OptionRow {
+        word: OptionWord::Value("remove-descriptor", Takes::Ranges(LAST_TAG)),
+        text: OptionText {
+            value: "LIST",
+            meaning: "0 to 255: leave out the descriptors of the program with these tags",
+            need: Need::Free,
+            beside: Beside::Any,
+        },
+    },
+    OptionRow {
+        word: OptionWord::Value(
+            "remove-pid-descriptor",
+            Takes::Pairs(Sign::Slash, (0, LAST_PID), (0, LAST_TAG)),
+        ),
+        text: OptionText {
+            value: "PID/TAG,..",
+            meaning: "PID 0 to 8191, TAG 0 to 255: leave out the descriptors with that tag of all components of that PID",
+            need: Need::Free,
+            beside: Beside::Any,
+        },
+    },
+    OptionRow {
+        word: OptionWord::Value(
+            "language",
+            Takes::Numbered(Sign::Slash, (0, LAST_PID), Part::Code),
+        ),
+        text: OptionText {
+            value: "PID/CODE,..",
+            meaning: "PID 0 to 8191, CODE three characters, as deu: set the code of the first item of the first ISO_639_language_descriptor of the first component of that PID, or put a new one with audio_type 0 last",
+            need: Need::Free,
+            beside: Beside::Any,
+        },
+    },
+    OptionRow {
+        word: OptionWord::Value(
+            "add-ca",
+            Takes::Pairs(Sign::Slash, (0, LAST_ID), (0, LAST_PID)),
+        ),
+        text: OptionText {
+            value: "SYS/PID,..",
+            meaning: "SYS 0 to 65535, PID 0 to 8191: put a CA descriptor of that system and ECM PID last in those of the program",
+            need: Need::Free,
+            beside: Beside::Any,
+        },
+    },
+    OptionRow {
+        word: OptionWord::Value("add-descriptor", Takes::Part(Part::Descriptors)),
+        text: OptionText {
+            value: "HEX",
+            meaning: "one or more whole descriptors, tag and length first: put them last in those of the program",
+            need: Need::Free,
+            beside: Beside::Any,
+        },
+    },
+    OptionRow {
+        word: OptionWord::Value(
+            "add-pid-descriptor",
+            Takes::Numbered(Sign::Slash, (0, LAST_PID), Part::Descriptors),
+        ),
+        text: OptionText {
+            value: "PID/HEX,..",
+            meaning: "PID 0 to 8191, HEX one or more whole descriptors, tag and length first: put them last in those of the first component of that PID",
+            need: Need::Free,
+            beside: Beside::Any,
+        },
+    },
+    OptionRow {
+        word: OptionWord::Flag("drop"),
+        text: OptionText {
+            value: "",
+            meaning: "with --remove-pid: drop the packets on these PIDs too, but not those on --pmt-pid",
+            need: Need::Free,
+            beside: Beside::With("remove-pid"),
+        },
+    },
+    OptionRow {
+        word: OptionWord::Flag("stuffing"),
+        text: OptionText {
+            value: "",
+            meaning: "with --drop: put null packets in their place",
+            need: Need::Free,
+            beside: Beside::With("drop"),
+        },
+    },
+    OptionRow {
         word: OptionWord::Value("new-version", Takes::Number(0, LAST_VERSION)),
         text: OptionText {
             value: "N",
@@ -118,6 +204,27 @@ fn moved_pids(alloc: Global, found: &ParsedOptions) -> Result<PairList, Refusal>
     found.pair_list(alloc, "move-pid", '/', (0, LAST_PID), (0, LAST_PID))
 }
 
+// Whether the options of dropped packets and of the version can be given together.
+fn is_together(found: &ParsedOptions, new_version: Option<u64>) -> bool
+    requires { new_version ≡ number_found (codes "new-version") LAST_VERSION found.now }
+    ensures { result ≡ pmt_together found.now }
+{
+    let drops = found.has_flag("drop");
+    versions_agree(new_version, found.has_flag("increment-version"))
+        && drops_agree(
+            found.has_value("remove-pid"),
+            drops,
+            found.has_flag("stuffing"),
+        )
+}
+
+// Whether packets are dropped where components are removed alone, and null packets put where packets are dropped.
+fn drops_agree(removes: bool, drops: bool, stuffs: bool) -> bool
+    ensures { result ≡ PmtWords.drops_agree removes drops stuffs }
+{
+    (removes || !drops) && (drops || !stuffs)
+}
+
 // Reads the settings of `pmt` from what its command found in the words.
 fn pmt_settings(alloc: Global, found: &ParsedOptions) -> Result<EditPmtConf, Refusal>
     ensures reads { ReadsParsed pmt found.now result }
@@ -132,8 +239,8 @@ fn pmt_settings(alloc: Global, found: &ParsedOptions) -> Result<EditPmtConf, Ref
     let add_pid = added_components(alloc, found)?;
     let remove_pid = found.ranges(alloc, "remove-pid", LAST_PID)?;
     let move_pid = moved_pids(alloc, found)?;
-    let increment_version = found.has_flag("increment-version");
-    if !versions_agree(new_version, increment_version) {
+    let changes = changes_of(alloc, found)?;
+    if !is_together(found, new_version) {
         return Err(Refusal::Broken(WordsRule::Conflict));
     }
     Ok(EditPmtConf {
@@ -142,8 +249,11 @@ fn pmt_settings(alloc: Global, found: &ParsedOptions) -> Result<EditPmtConf, Ref
         remove_pid,
         move_pid,
         pcr_pid,
+        changes,
+        drop: found.has_flag("drop"),
+        stuffing: found.has_flag("stuffing"),
         new_version,
-        increment_version,
+        increment_version: found.has_flag("increment-version"),
     })
 }
 
@@ -163,8 +273,8 @@ impl PluginSettings for EditPmtConf {
 
     fn help() -> PluginHelp {
         PluginHelp {
-            usage: "-P pmt --pmt-pid PID [--add-pid PID/TYPE,..] [--remove-pid LIST] [--move-pid OLD/NEW,..] [--pcr-pid PID] [--new-version N | --increment-version]",
-            rule: "Each packet on the PID becomes the next packet of the edited PMTs, or a null packet until a table is known; the packets of the components stay as they are. What is left out comes first, then the other options in this order, and then the version. A table that changes without a new version is written on as it was first.",
+            usage: "-P pmt --pmt-pid PID [--add-pid PID/TYPE,..] [--remove-pid LIST] [--move-pid OLD/NEW,..] [--pcr-pid PID] [--remove-descriptor LIST] [--remove-pid-descriptor PID/TAG,..] [--language PID/CODE,..] [--add-ca SYS/PID,..] [--add-descriptor HEX] [--add-pid-descriptor PID/HEX,..] [--drop [--stuffing]] [--new-version N | --increment-version]",
+            rule: "Each packet on the PID becomes the next packet of the edited PMTs, or a null packet until a table is known; the packets of the components stay as they are, unless --drop is given. Components are left out first, then the other options come in this order, and then the version. A PMT that would not fit stays as it was. A table that changes without a new version is written on as it was first.",
         }
     }
 
