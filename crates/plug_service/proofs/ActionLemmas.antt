@@ -1,16 +1,16 @@
 -- Actions, by PIDs and by tables in force.
-use Rattle.std.proofs.Common.{◌≡◌, ℕ, ◌==◌, ◌&&◌, ◌||◌, not, Bool, true, false, List, [], ◌∷◌, ◌++◌, Option, Some, refl, sym, ◌∙◌, ap, arith}
+use Rattle.std.proofs.Common.{◌≡◌, ℕ, ◌==◌, ◌&&◌, ◌||◌, not, Bool, true, false, List, [], ◌∷◌, ◌++◌, Option, None, Some, refl, sym, ◌∙◌, ap, arith}
 use Rattle.std.specs.Prelude.{if◌then◌else◌, nat_lt}
-use Rattle.std.specs.List.{list_any}
+use Rattle.std.specs.List.{cons_option, list_any}
 use Rattle.std.specs.Map.{lookup}
 use Rattle.std.proofs.lemmas.Bool.Decides.{nat_tests}
 use Rattle.ts_packet.specs.declared.numbers.TheConstants.{NULL_PID}
 use Rattle.ts_packet.specs.Header.{pid_of}
 use Rattle.ts_table_rows.specs.TableValues.{TableHolding}
 use Rattle.plug_psi.specs.InForce.{follows, is_named, may_have_tables, names, pat_of, pid_for, pmt_of, services_in}
-use Rattle.plug_psi.specs.ServicePids.{has_pid, pids_of}
+use Rattle.plug_psi.specs.ServicePids.{has_pid}
 use Rattle.plug_psi.proofs.ForceLemmas.{pat-other}
-use Rattle.plug_service.specs.Actions.{action_after, action_of, is_at, is_edit, kept_action, may_be_read, removed_action}
+use Rattle.plug_service.specs.Actions.{action_after, action_of, is_edit, kept_action, may_be_read, own_pids, pmt_pids, removed_action}
 use Rattle.plug_service.specs.declared.way.Way.{Way}
 use Rattle.plug_service.specs.declared.way.Way.TheVariants.{Keep, Remove}
 use Rattle.plug_service.specs.declared.action.Action.{Action}
@@ -82,16 +82,16 @@ apart pid e = grind (arith, nat_tests, e)
 
 -- packets are edited as PATs exactly on PID 0, and as SDTs exactly on PID 17
 pub fixed_pids :
-    (way : Way) (service : ℕ) (packets : List (List ℕ)) (pid : ℕ) (action : Action) → action ≡ action_after way service packets pid →
+    (way : Way) (services : List ℕ) (packets : List (List ℕ)) (pid : ℕ) (action : Action) → action ≡ action_after way services packets pid →
     ((pid == 0) ≡ edits_pat action) × ((pid == 17) ≡ edits_sdt action)
 unfolding action_after
-fixed_pids Keep service packets pid action e = chosen_first (pid == 0) (pid == 17) _ action (kept_other _ _ pid) (apart pid) e
-fixed_pids Remove service packets pid action e = chosen_first (pid == 0) (pid == 17) _ action (removed_other _ _ _ pid) (apart pid) e
+fixed_pids Keep services packets pid action e = chosen_first (pid == 0) (pid == 17) _ action (kept_other _ _ pid) (apart pid) e
+fixed_pids Remove services packets pid action e = chosen_first (pid == 0) (pid == 17) _ action (removed_other _ _ _ pid) (apart pid) e
 
 -- the action of a PID by the tables in force after packets
-pub action-after : (way : Way) (service : ℕ) (packets : List (List ℕ)) (pid : ℕ) → action_of way service (pat_of packets) (λ other. pmt_of other packets) pid ≡ action_after way service packets pid
+pub action-after : (way : Way) (services : List ℕ) (packets : List (List ℕ)) (pid : ℕ) → action_of way services (pat_of packets) (λ other. pmt_of other packets) pid ≡ action_after way services packets pid
 unfolding action_after
-action-after way service packets pid = refl
+action-after way services packets pid = refl
 
 -- ---- packets on PIDs whose tables are neither read nor edited
 
@@ -103,15 +103,37 @@ neither : (a b : Bool) → (a || b) ≡ false → (a ≡ false) × (b ≡ false)
 neither true b e = cc
 neither false b e = (refl, e)
 
+-- whether a PID is given, and it is this one
+abbrev is_at : Option ℕ → ℕ → Bool
+is_at None pid = false
+is_at (Some told) pid = told == pid
+
 -- the PID of the first entry of a service is that of an entry
-named-at : (services : List (ℕ × ℕ)) (service pid : ℕ) → is_at (lookup (λ id. id == service) services) pid ≡ true → list_any (λ entry. entry.1 == pid) services ≡ true
+named-at : (entries : List (ℕ × ℕ)) (service pid : ℕ) → is_at (lookup (λ id. id == service) entries) pid ≡ true → list_any (λ entry. entry.1 == pid) entries ≡ true
 named-at [] service pid e = e
-named-at (entry ∷ services) service pid e = by (entry.0 == service) (λ f. named-at services service pid f) e
+named-at (entry ∷ entries) service pid e = by (entry.0 == service) (λ f. named-at entries service pid f) e
   where
-    by : (b : Bool) → (is_at (lookup (λ id. id == service) services) pid ≡ true → list_any (λ entry. entry.1 == pid) services ≡ true)
-        → is_at (if b then Some entry.1 else lookup (λ id. id == service) services) pid ≡ true → ((entry.1 == pid) || list_any (λ entry. entry.1 == pid) services) ≡ true
-    by true more e = ap (λ t. t || list_any (λ entry. entry.1 == pid) services) e
-    by false more e = or-right (entry.1 == pid) (list_any (λ entry. entry.1 == pid) services) (more e)
+    by : (b : Bool) → (is_at (lookup (λ id. id == service) entries) pid ≡ true → list_any (λ entry. entry.1 == pid) entries ≡ true)
+        → is_at (if b then Some entry.1 else lookup (λ id. id == service) entries) pid ≡ true → ((entry.1 == pid) || list_any (λ entry. entry.1 == pid) entries) ≡ true
+    by true more e = ap (λ t. t || list_any (λ entry. entry.1 == pid) entries) e
+    by false more e = or-right (entry.1 == pid) (list_any (λ entry. entry.1 == pid) entries) (more e)
+
+-- a PID among those that are given is the first of them, or one of the others
+among : (told : Option ℕ) (pids : List ℕ) (pid : ℕ) → has_pid (cons_option told pids) pid ≡ (is_at told pid || has_pid pids pid)
+among None pids pid = refl
+among (Some at) pids pid = refl
+
+either : (a b c : Bool) → (a ≡ true → c ≡ true) → (b ≡ true → c ≡ true) → (a || b) ≡ true → c ≡ true
+either true b c f g e = f refl
+either false b c f g e = g e
+
+-- the PIDs of the services' first entries are those of entries
+pub pmts-named : (services : List ℕ) (pat : Option TableHolding) (pid : ℕ) → has_pid (pmt_pids services pat) pid ≡ true → names pat pid ≡ true
+pmts-named [] pat pid e = cc
+pmts-named (service ∷ services) pat pid e =
+    either (is_at (pid_for pat service) pid) (has_pid (pmt_pids services pat) pid) (names pat pid)
+    (named-at (services_in pat) service pid) (pmts-named services pat pid)
+    (sym (among (pid_for pat service) (pmt_pids services pat) pid) ∙ e)
 
 -- where it is not followed, it is that of null packets
 null-alone : (a b : Bool) → a ≡ true → (a && not b) ≡ false → b ≡ true
@@ -119,8 +141,8 @@ null-alone true true e f = refl
 null-alone true false e f = sym f
 null-alone false b e f = cc
 
-unfollowed : (pat : Option TableHolding) (service pid : ℕ) → is_named pat pid ≡ false → is_at (pid_for pat service) pid ≡ true → (pid == NULL_PID) ≡ true
-unfollowed pat service pid none e = null-alone (names pat pid) (pid == NULL_PID) (named-at (services_in pat) service pid e) none
+unfollowed : (pat : Option TableHolding) (services : List ℕ) (pid : ℕ) → is_named pat pid ≡ false → has_pid (pmt_pids services pat) pid ≡ true → (pid == NULL_PID) ≡ true
+unfollowed pat services pid none e = null-alone (names pat pid) (pid == NULL_PID) (pmts-named services pat pid e) none
 
 kept-plain : (a b : Bool) (pid : ℕ) → (a ≡ true → (pid == NULL_PID) ≡ true) → is_edit (kept_action a b pid) ≡ false
 kept-plain true b pid null = ap (λ t. is_edit (if t then Drop else EditPmt)) (null refl)
@@ -141,20 +163,20 @@ first-plain true y other e f = cc
 first-plain false true other e f = cc
 first-plain false false other e f = refl
 
-plain-of : (way : Way) (service : ℕ) (pat : Option TableHolding) (pmts : ℕ → Option TableHolding) (pid : ℕ) →
-    (pid == 17) ≡ false → (pid == 0) ≡ false → is_named pat pid ≡ false → is_edit (action_of way service pat pmts pid) ≡ false
-plain-of Keep service pat pmts pid e f none =
+plain-of : (way : Way) (services : List ℕ) (pat : Option TableHolding) (pmts : ℕ → Option TableHolding) (pid : ℕ) →
+    (pid == 17) ≡ false → (pid == 0) ≡ false → is_named pat pid ≡ false → is_edit (action_of way services pat pmts pid) ≡ false
+plain-of Keep services pat pmts pid e f none =
     first-plain (pid == 0) (pid == 17) _ f e
-    ∙ kept-plain (is_at (pid_for pat service) pid) (has_pid (pids_of (pmts service)) pid) pid (unfollowed pat service pid none)
-plain-of Remove service pat pmts pid e f none = first-plain (pid == 0) (pid == 17) _ f e ∙ removed-plain _ _ _ pid
+    ∙ kept-plain (has_pid (pmt_pids services pat) pid) (has_pid (own_pids services pmts) pid) pid (unfollowed pat services pid none)
+plain-of Remove services pat pmts pid e f none = first-plain (pid == 0) (pid == 17) _ f e ∙ removed-plain _ _ _ pid
 
 -- a packet on a PID whose tables are neither read nor edited is not edited
 pub unread-plain :
-    (way : Way) (service : ℕ) (met : List (List ℕ)) (p : List ℕ) (action : Action) →
-    action ≡ action_after way service (met ++ p ∷ []) (pid_of p) → may_be_read (pid_of p) met ≡ false → is_edit action ≡ false
-unread-plain way service met p action e unread =
+    (way : Way) (services : List ℕ) (met : List (List ℕ)) (p : List ℕ) (action : Action) →
+    action ≡ action_after way services (met ++ p ∷ []) (pid_of p) → may_be_read (pid_of p) met ≡ false → is_edit action ≡ false
+unread-plain way services met p action e unread =
     let first = neither (pid_of p == 17) (may_have_tables (pid_of p) met) unread in
     let second = neither (pid_of p == 0) (follows (pid_of p) met) first.1 in
-    ap is_edit (e ∙ sym (action-after way service (met ++ p ∷ []) (pid_of p)))
-    ∙ plain-of way service (pat_of (met ++ p ∷ [])) (λ other. pmt_of other (met ++ p ∷ [])) (pid_of p) first.0 second.0
+    ap is_edit (e ∙ sym (action-after way services (met ++ p ∷ []) (pid_of p)))
+    ∙ plain-of way services (pat_of (met ++ p ∷ [])) (λ other. pmt_of other (met ++ p ∷ [])) (pid_of p) first.0 second.0
     (ap (λ pat. is_named pat (pid_of p)) (pat-other met p second.0) ∙ second.1)

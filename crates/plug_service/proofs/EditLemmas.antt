@@ -26,22 +26,22 @@ on-more pid met p = filter-append (λ packet. pid_of packet == pid) met (p ∷ [
     by false front = append-nil front
 
 -- a packet that is edited as one of PATs is on PID 0
-pub on_zero : (way : Way) (service : ℕ) (met : List (List ℕ)) (p : List ℕ) → EditPat ≡ action_after way service (met ++ p ∷ []) (pid_of p) → pid_of p ≡ 0
-on_zero way service met p e = eqb-true (pid_of p) 0 (fixed_pids way service (met ++ p ∷ []) (pid_of p) EditPat e).0
+pub on_zero : (way : Way) (services : List ℕ) (met : List (List ℕ)) (p : List ℕ) → EditPat ≡ action_after way services (met ++ p ∷ []) (pid_of p) → pid_of p ≡ 0
+on_zero way services met p e = eqb-true (pid_of p) 0 (fixed_pids way services (met ++ p ∷ []) (pid_of p) EditPat e).0
 
 -- the editors after one packet more, by its action
 pub editors-next :
-    (way : Way) (service : ℕ) (old new : Editors) (met : List (List ℕ)) (p : List ℕ) (action : Action) →
-    action ≡ action_after way service (met ++ p ∷ []) (pid_of p) → EditorsStand way service old met → new.alone.service ≡ old.alone.service →
-    EditsPats way service new.pat 0 (with_if (edits_pat action) (packets_on 0 met) p) →
-    Reads (EditsSdts way service) new.sdt 17 (with_if (edits_sdt action) (packets_on 17 met) p) →
-    AllStand (Reads (EditsPmts new.alone.service)) new.pmts (is_edited way service) (met ++ p ∷ []) →
-    EditorsStand way service new (met ++ p ∷ [])
-editors-next way service old new met p action e h same pats sdts pmts =
-    let fixed = fixed_pids way service (met ++ p ∷ []) (pid_of p) action e in
+    (way : Way) (services : List ℕ) (old new : Editors) (met : List (List ℕ)) (p : List ℕ) (action : Action) →
+    action ≡ action_after way services (met ++ p ∷ []) (pid_of p) → EditorsStand way services old met → new.alone.services ≡ old.alone.services →
+    EditsPats way services new.pat 0 (with_if (edits_pat action) (packets_on 0 met) p) →
+    Reads (EditsSdts way services) new.sdt 17 (with_if (edits_sdt action) (packets_on 17 met) p) →
+    AllStand (Reads (EditsPmts new.alone.services)) new.pmts (is_edited way services) (met ++ p ∷ []) →
+    EditorsStand way services new (met ++ p ∷ [])
+editors-next way services old new met p action e h same pats sdts pmts =
+    let fixed = fixed_pids way services (met ++ p ∷ []) (pid_of p) action e in
     record {
-      same_service = same ∙ h.same_service;
-      pats = subst (EditsPats way service new.pat 0) (sym (on-more 0 met p ∙ ap (λ b. with_if b (packets_on 0 met) p) fixed.0)) pats;
-      sdts = subst (Reads (EditsSdts way service) new.sdt 17) (sym (on-more 17 met p ∙ ap (λ b. with_if b (packets_on 17 met) p) fixed.1)) sdts;
+      same_services = same ∙ h.same_services;
+      pats = subst (EditsPats way services new.pat 0) (sym (on-more 0 met p ∙ ap (λ b. with_if b (packets_on 0 met) p) fixed.0)) pats;
+      sdts = subst (Reads (EditsSdts way services) new.sdt 17) (sym (on-more 17 met p ∙ ap (λ b. with_if b (packets_on 17 met) p) fixed.1)) sdts;
       pmts = pmts;
     }

@@ -1,6 +1,9 @@
 pub mod ActionLemmas
 pub mod EditLemmas
 pub mod PartLemmas
+pub mod PidLemmas
 pub mod FlagLemmas
 pub mod StepLemmas
+pub mod ServiceLemmas
+mod OneServiceRows
 mod Rows

@@ -1,8 +1,9 @@
 -- Whether the service is there, and what the steps stand for, one cell more.
-use Rattle.std.proofs.Common.{◌≡◌, ℕ, ◌≤◌, ◌&&◌, Bool, true, false, List, [], ◌∷◌, ◌++◌, length, refl, sym, ◌∙◌, ap, ap₂, append-nil, arith, length-append, subst, true≢false, Bor}
+use Rattle.std.proofs.Common.{◌≡◌, ℕ, ◌+◌, ◌<◌, ◌≤◌, ◌&&◌, ◌||◌, Bool, true, false, List, [], ◌∷◌, ◌++◌, length, drop, get_or, refl, sym, ◌∙◌, ap, ap₂, append-nil, arith, length-append, subst, true≢false, Bor}
 use Rattle.std.specs.Prelude.{Option, None, Some, is_some, option_map}
 use Rattle.std.specs.Option.{option_copied}
 use Rattle.std.proofs.lemmas.Grind.{flat_map-append}
+use Rattle.std.proofs.lemmas.List.{drop_more, drop_all}
 use Rattle.ts_packet.specs.declared.cell.Cell.{Cell}
 use Rattle.ts_packet.specs.Cells.{Dropped, Live, live_packets, packet_in}
 use Rattle.plugin_trait.proofs.FindLemmas.{find-dropped, find-met}
@@ -13,7 +14,7 @@ use Rattle.ts_table_rows.specs.TableValues.{TableHolding}
 use Rattle.plug_psi.specs.InForce.{current_pat, pat_of, pid_for, pmt_of}
 use Rattle.plug_psi.specs.SameForce.{SameInForce}
 use Rattle.plug_psi.proofs.FoundLemmas.{found-none}
-use Rattle.plug_service.specs.Presence.{finds_service, is_there, is_there_after}
+use Rattle.plug_service.specs.Presence.{finds_service, is_any_there, is_there, is_there_after}
 use Rattle.plug_service.specs.ServiceState.{IsNoted, MeetsHistory, StandsFor}
 use Rattle.plug_service.specs.declared.way.Way.{Way}
 use Rattle.plug_service.specs.declared.way.Way.TheVariants.{Keep, Remove}
@@ -40,13 +41,39 @@ pub held-some : {X Y : Type 0} (view : X → Y) (lent : Option (Bor X)) → is_s
 held-some view None = refl
 held-some view (Some lent) = refl
 
--- before the first packet it is not
-pub none-there : (way : Way) (service : ℕ) → is_there_after way service [] ≡ false
-none-there way service = sym (not-there way service (pat_of []) (pmt_of service []) (ap (λ pat. pid_for pat service) no-pat))
+-- the PAT has none of the services
+none-of : (way : Way) (services : List ℕ) (pat : Option TableHolding) (pmts : ℕ → Option TableHolding) → ((service : ℕ) → pid_for pat service ≡ None) → is_any_there way services pat pmts ≡ false
+none-of way [] pat pmts none = refl
+none-of way (service ∷ services) pat pmts none = ap₂ (λ a b. a || b) (sym (not-there way service pat (pmts service) (none service))) (none-of way services pat pmts none)
+
+-- before the first packet none is there
+pub none-there : (way : Way) (services : List ℕ) → is_there_after way services [] ≡ false
+none-there way services = none-of way services (pat_of []) (λ service. pmt_of service []) (λ service. ap (λ pat. pid_for pat service) no-pat)
+
+-- with the same PMTs as many are there
+same-any : (way : Way) (services : List ℕ) (pat pat' : Option TableHolding) (pmts pmts' : ℕ → Option TableHolding) → pat ≡ pat' → ((service : ℕ) → pmts service ≡ pmts' service) → is_any_there way services pat pmts ≡ is_any_there way services pat' pmts'
+same-any way [] pat pat' pmts pmts' e same = refl
+same-any way (service ∷ services) pat pat' pmts pmts' e same = ap₂ (λ a b. a || b) (ap₂ (is_there way service) e (same service)) (same-any way services pat pat' pmts pmts' e same)
 
 -- where the same tables are in force, nothing changes
-pub same-there : (way : Way) (service : ℕ) (met : List (List ℕ)) (p : List ℕ) → SameInForce met p → is_there_after way service (met ++ p ∷ []) ≡ is_there_after way service met
-same-there way service met p same = ap₂ (is_there way service) same.pat (same.pmts service)
+pub same-there : (way : Way) (services : List ℕ) (met : List (List ℕ)) (p : List ℕ) → SameInForce met p → is_there_after way services (met ++ p ∷ []) ≡ is_there_after way services met
+same-there way services met p same =
+    same-any way services (pat_of (met ++ p ∷ [])) (pat_of met) (λ service. pmt_of service (met ++ p ∷ [])) (λ service. pmt_of service met) same.pat same.pmts
+
+-- one of some services that are left
+module _ (way : Way) (services : List ℕ) (pat : Option TableHolding) (pmts : ℕ → Option TableHolding) (i : ℕ) (d : ℕ) (inside : i < length services) (there : Bool)
+    (is : there ≡ is_there way (get_or services i d) pat (pmts (get_or services i d))) where
+  any-step : is_any_there way (drop i services) pat pmts ≡ (there || is_any_there way (drop (i + 1) services) pat pmts)
+  any-step = ap (λ l. is_any_there way l pat pmts) (drop_more services i d inside) ∙ ap (λ b. b || is_any_there way (drop (i + 1) services) pat pmts) (sym is)
+
+  pub any-next : there ≡ false → is_any_there way (drop i services) pat pmts ≡ is_any_there way services pat pmts → is_any_there way (drop (i + 1) services) pat pmts ≡ is_any_there way services pat pmts
+  any-next none so_far = sym (any-step ∙ ap (λ b. b || is_any_there way (drop (i + 1) services) pat pmts) none) ∙ so_far
+
+  pub any-found : there ≡ true → is_any_there way (drop i services) pat pmts ≡ is_any_there way services pat pmts → true ≡ is_any_there way services pat pmts
+  any-found one so_far = sym (any-step ∙ ap (λ b. b || is_any_there way (drop (i + 1) services) pat pmts) one) ∙ so_far
+
+pub any-none : (way : Way) (services : List ℕ) (pat : Option TableHolding) (pmts : ℕ → Option TableHolding) (i : ℕ) → length services ≤ i → is_any_there way (drop i services) pat pmts ≡ is_any_there way services pat pmts → false ≡ is_any_there way services pat pmts
+any-none way services pat pmts i none so_far = sym (ap (λ l. is_any_there way l pat pmts) (drop_all i services none)) ∙ so_far
 
 -- ---- what is noted
 
@@ -66,25 +93,25 @@ noted-after old new at there e = λ n. ap (λ o. first_of o n there) e ∙ once 
 marked : (mark : ℕ) (history : List Cell) (cell : Cell) → mark ≤ length history → mark ≤ length (history ++ cell ∷ [])
 marked mark history cell h = omega (arith, h, length-append history (cell ∷ []))
 
--- the position that is kept does not depend on how the service is named
-renamed : (way way' : Way) (service service' : ℕ) (history : List Cell) (found : FirstFind) → way' ≡ way → service' ≡ service →
-    IsFirstFind (finds_service way service) history found → IsFirstFind (finds_service way' service') history found
-renamed way way' service service' history found e f h =
-    subst (λ w. IsFirstFind (finds_service w service') history found) (sym e) (subst (λ s. IsFirstFind (finds_service way s) history found) (sym f) h)
+-- the position that is kept does not depend on how the services are named
+renamed : (way way' : Way) (services services' : List ℕ) (history : List Cell) (found : FirstFind) → way' ≡ way → services' ≡ services →
+    IsFirstFind (finds_service way services) history found → IsFirstFind (finds_service way' services') history found
+renamed way way' services services' history found e f h =
+    subst (λ w. IsFirstFind (finds_service w services') history found) (sym e) (subst (λ s. IsFirstFind (finds_service way s) history found) (sym f) h)
 
-module _ (old new : ServiceSteps) (mark : ℕ) (history : List Cell) (e : new.way ≡ old.way) (f : new.service ≡ old.service)
+module _ (old new : ServiceSteps) (mark : ℕ) (history : List Cell) (e : new.way ≡ old.way) (f : new.services ≡ old.services)
     (s : unmarked (MeetsHistory old) history mark) where
   pub met-more :
       (packet : List ℕ) (labels at : ℕ) → length history ≡ at →
       ((met : List (List ℕ)) → StandsFor old met → StandsFor new (met ++ packet ∷ [])) →
-      ((met : List (List ℕ)) → StandsFor old met → new.found.at ≡ first_of old.found.at at (is_there_after old.way old.service (met ++ packet ∷ []))) →
+      ((met : List (List ℕ)) → StandsFor old met → new.found.at ≡ first_of old.found.at at (is_there_after old.way old.services (met ++ packet ∷ []))) →
       unmarked (MeetsHistory new) (history ++ Live packet labels ∷ []) mark
   met-more packet labels at count stands noted =
       let met = live_packets history in (
         (
           subst (StandsFor new) (sym (flat_map-append packet_in history (Live packet labels ∷ []))) (stands met s.0.0),
-          renamed old.way new.way old.service new.service (history ++ Live packet labels ∷ []) new.found e f
-              (find-met (finds_service old.way old.service) history packet labels at (is_there_after old.way old.service (met ++ packet ∷ [])) old.found new.found s.0.1 count refl (noted met s.0.0)),
+          renamed old.way new.way old.services new.services (history ++ Live packet labels ∷ []) new.found e f
+              (find-met (finds_service old.way old.services) history packet labels at (is_there_after old.way old.services (met ++ packet ∷ [])) old.found new.found s.0.1 count refl (noted met s.0.0)),
         ),
         marked mark history (Live packet labels) s.1,
       )
@@ -94,8 +121,8 @@ module _ (old new : ServiceSteps) (mark : ℕ) (history : List Cell) (e : new.wa
   met-failed failed found = (
     (
       λ works. absurd (true≢false (sym failed ∙ works)),
-      renamed old.way new.way old.service new.service history new.found e f
-          (subst (λ g. IsFirstFind (finds_service old.way old.service) history g) (sym found) s.0.1),
+      renamed old.way new.way old.services new.services history new.found e f
+          (subst (λ g. IsFirstFind (finds_service old.way old.services) history g) (sym found) s.0.1),
     ),
     s.1,
   )
@@ -104,7 +131,7 @@ pub met-dropped : (plugin : ServiceSteps) (mark : ℕ) (history : List Cell) →
 met-dropped plugin mark history s = (
   (
     subst (StandsFor plugin) (sym (flat_map-append packet_in history (Dropped ∷ []) ∙ append-nil (live_packets history))) s.0.0,
-    find-dropped (finds_service plugin.way plugin.service) history plugin.found s.0.1,
+    find-dropped (finds_service plugin.way plugin.services) history plugin.found s.0.1,
   ),
   marked mark history Dropped s.1,
 )

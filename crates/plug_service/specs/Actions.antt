@@ -1,71 +1,80 @@
--- What becomes of the packets on a PID if a service is kept or removed.
+-- What becomes of the packets on a PID if services are kept or removed.
 -- This project's own rule, over the PAT of ISO/IEC 13818-1, 2.4.4.3 and the SDT on PID 17 of ETSI EN 300 468, 5.1.3. First
--- come PID 0 and PID 17, whose tables are edited, then the PID of the service's PMT, then the PIDs that this PMT has.
-use Rattle.std.specs.Prelude.{ℕ, ◌==◌, ◌&&◌, ◌||◌, Bool, true, false, not, nat_lt, List, [], count_by, Option, Some, None, if◌then◌else◌}
+-- come PID 0 and PID 17, whose tables are edited, then the PIDs of the services' PMTs, then the PIDs that these PMTs have.
+use Rattle.std.specs.Prelude.{ℕ, ◌==◌, ◌&&◌, ◌||◌, Bool, true, false, not, nat_lt, List, [], count_by, filter, filter_map, Option, if◌then◌else◌}
 use Rattle.std.specs.List.{flat_map}
 use Rattle.ts_packet.specs.declared.numbers.TheConstants.{NULL_PID}
 use Rattle.ts_table_rows.specs.TableValues.{TableHolding}
 use Rattle.plug_psi.specs.InForce.{may_have_tables, pat_of, pid_for, pmt_of, services_in}
 use Rattle.plug_psi.specs.ServicePids.{has_pid, pids_of}
+use Rattle.plug_service.specs.Services.{is_one}
 use Rattle.plug_service.specs.declared.way.Way.{Way}
 use Rattle.plug_service.specs.declared.way.Way.TheVariants.{Keep, Remove}
 use Rattle.plug_service.specs.declared.action.Action.{Action}
 use Rattle.plug_service.specs.declared.action.Action.TheVariants.{EditPat, EditSdt, EditPmt, Pass, Drop}
 
--- whether a PID is given, and it is this one
-abbrev pub is_at : Option ℕ → ℕ → Bool
-is_at None pid = false
-is_at (Some told) pid = told == pid
-
 -- the packets on PID 0 and PID 17 are edited, whatever becomes of those on other PIDs
 abbrev pub edited_first : ℕ → Action → Action
 edited_first pid other = if pid == 0 then EditPat else (if pid == 17 then EditSdt else other)
 
--- If a service is kept, packets on the PID of its PMT are edited, but null packets are dropped. Packets on the PIDs of its
--- PMT pass, and all others are dropped.
+-- If services are kept, packets on the PIDs of their PMTs are edited, but null packets are dropped. Packets on the PIDs that
+-- a PMT of theirs has pass, and all others are dropped.
 abbrev pub kept_action : Bool → Bool → ℕ → Action
 kept_action is_of_pmt is_in_pmt pid =
     if is_of_pmt then (if pid == NULL_PID then Drop else EditPmt) else (if is_in_pmt then Pass else Drop)
 
--- If a service is removed, packets on the PID of its PMT are dropped unless another entry of the PAT shares it. So are
--- packets on the PIDs that its PMT alone has, except PIDs up to 31, which are for tables. All others pass.
+-- If services are removed, packets on the PIDs of their PMTs are dropped unless another entry of the PAT shares the PID. So
+-- are packets on the PIDs that their PMTs alone have, except PIDs up to 31, which are for tables. All others pass.
 abbrev pub removed_action : Bool → Bool → Bool → ℕ → Action
 removed_action is_of_pmt is_shared is_in_pmt_alone pid =
     if is_of_pmt then (if is_shared then Pass else Drop)
     else (if nat_lt 31 pid && is_in_pmt_alone then Drop else Pass)
 
--- whether a PID is given, and more than one entry of a PAT has it, so that another one besides the service's first has it
-abbrev pub is_shared_at : Option TableHolding → Option ℕ → Bool
-is_shared_at pat None = false
-is_shared_at pat (Some pid) = nat_lt 1 (count_by (λ entry. entry.1 == pid) (services_in pat))
+-- the PIDs of the PMTs of services: of each service that a PAT has, that of its first entry
+abbrev pub pmt_pids : List ℕ → Option TableHolding → List ℕ
+pmt_pids services pat = filter_map (pid_for pat) services
 
--- whether another entry of a PAT has the PID of the first one of a service
-abbrev pub is_shared : ℕ → Option TableHolding → Bool
-is_shared service pat = is_shared_at pat (pid_for pat service)
+-- whether more entries of a PAT have a PID than there are in a list of PIDs
+abbrev pub more_entries : List ℕ → Option TableHolding → ℕ → Bool
+more_entries pids pat pid = nat_lt (count_by (λ p. p == pid) pids) (count_by (λ entry. entry.1 == pid) (services_in pat))
 
--- the PIDs of the PMT in force of an entry of a PAT; none if the entry is one of the service
-abbrev pub pids_besides : ℕ → (ℕ → Option TableHolding) → ℕ × ℕ → List ℕ
-pids_besides service pmts entry = if entry.0 == service then [] else pids_of (pmts entry.0)
+-- Whether an entry of a PAT that is the first one of none of the services has a PID. The services are different, and so are
+-- their first entries: there is such an entry exactly if more entries than first entries of these services have the PID.
+abbrev pub is_shared : List ℕ → Option TableHolding → ℕ → Bool
+is_shared services pat = more_entries (pmt_pids services pat) pat
+
+-- the PIDs of the PMTs of services that other entries have too
+abbrev pub shared_pids : List ℕ → Option TableHolding → List ℕ
+shared_pids services pat = filter (is_shared services pat) (pmt_pids services pat)
+
+-- the PIDs that the PMTs in force of services have
+abbrev pub own_pids : List ℕ → (ℕ → Option TableHolding) → List ℕ
+own_pids services pmts = flat_map (λ service. pids_of (pmts service)) services
+
+-- the PIDs of the PMT in force of an entry of a PAT; none if the entry is one of the services
+abbrev pub pids_besides : List ℕ → (ℕ → Option TableHolding) → ℕ × ℕ → List ℕ
+pids_besides services pmts entry = if is_one services entry.0 then [] else pids_of (pmts entry.0)
 
 -- the PIDs of the PMTs in force of the other services of a PAT
-abbrev pub other_pids : ℕ → Option TableHolding → (ℕ → Option TableHolding) → List ℕ
-other_pids service pat pmts = flat_map (pids_besides service pmts) (services_in pat)
+abbrev pub other_pids : List ℕ → Option TableHolding → (ℕ → Option TableHolding) → List ℕ
+other_pids services pat pmts = flat_map (pids_besides services pmts) (services_in pat)
 
--- whether a PID is one of the service's PMT and of no other
-abbrev pub is_in_pmt_alone : ℕ → Option TableHolding → (ℕ → Option TableHolding) → ℕ → Bool
-is_in_pmt_alone service pat pmts pid =
-    has_pid (pids_of (pmts service)) pid && not (has_pid (other_pids service pat pmts) pid)
+-- whether a PID is one of the services' PMTs and of no other
+abbrev pub is_in_pmts_alone : List ℕ → Option TableHolding → (ℕ → Option TableHolding) → ℕ → Bool
+is_in_pmts_alone services pat pmts pid =
+    has_pid (own_pids services pmts) pid && not (has_pid (other_pids services pat pmts) pid)
 
 -- what becomes of packets on a PID if this PAT and these PMTs are in force
-abbrev pub action_of : Way → ℕ → Option TableHolding → (ℕ → Option TableHolding) → ℕ → Action
-action_of Keep service pat pmts pid =
-    edited_first pid (kept_action (is_at (pid_for pat service) pid) (has_pid (pids_of (pmts service)) pid) pid)
-action_of Remove service pat pmts pid =
-    edited_first pid (removed_action (is_at (pid_for pat service) pid) (is_shared service pat) (is_in_pmt_alone service pat pmts pid) pid)
+abbrev pub action_of : Way → List ℕ → Option TableHolding → (ℕ → Option TableHolding) → ℕ → Action
+action_of Keep services pat pmts pid =
+    edited_first pid (kept_action (has_pid (pmt_pids services pat) pid) (has_pid (own_pids services pmts) pid) pid)
+action_of Remove services pat pmts pid =
+    edited_first pid (removed_action
+    (has_pid (pmt_pids services pat) pid) (has_pid (shared_pids services pat) pid) (is_in_pmts_alone services pat pmts pid) pid)
 
 -- what becomes of packets on a PID after these packets of any PID
-unfoldable pub action_after : Way → ℕ → List (List ℕ) → ℕ → Action
-action_after way service packets pid = action_of way service (pat_of packets) (λ other. pmt_of other packets) pid
+unfoldable pub action_after : Way → List ℕ → List (List ℕ) → ℕ → Action
+action_after way services packets pid = action_of way services (pat_of packets) (λ other. pmt_of other packets) pid
 
 -- whether packets with this action are edited as those of PMTs
 abbrev pub edits_pmt : Action → Bool

@@ -14,25 +14,25 @@ use Rattle.plug_service.specs.declared.sdt_part.SdtPart.{SdtPart}
 use Rattle.plug_service.specs.declared.pmt_alone.PmtAlone.{PmtAlone}
 use Rattle.plug_service.specs.declared.editors.Editors.{Editors}
 
--- an editor of PATs, of SDTs, or of PMTs edits by this way and this service, and stands for the packets that it processed
-abbrev pub EditsPats : Way → ℕ → CycleEditor PatPart → ℕ → List (List ℕ) → Type 0
-EditsPats way service editor pid taken =
-    InSeededCycles (pat_change (edit_of editor).way (edit_of editor).service) (pat_change way service) editor pid taken
+-- an editor of PATs, of SDTs, or of PMTs edits by this way and these services, and stands for the packets that it processed
+abbrev pub EditsPats : Way → List ℕ → CycleEditor PatPart → ℕ → List (List ℕ) → Type 0
+EditsPats way services editor pid taken =
+    InSeededCycles (pat_change (edit_of editor).way (edit_of editor).services) (pat_change way services) editor pid taken
 
-abbrev pub EditsSdts : Way → ℕ → CycleEditor SdtPart → ℕ → List (List ℕ) → Type 0
-EditsSdts way service editor pid taken =
-    InSeededCycles (sdt_change (edit_of editor).way (edit_of editor).service) (sdt_change way service) editor pid taken
+abbrev pub EditsSdts : Way → List ℕ → CycleEditor SdtPart → ℕ → List (List ℕ) → Type 0
+EditsSdts way services editor pid taken =
+    InSeededCycles (sdt_change (edit_of editor).way (edit_of editor).services) (sdt_change way services) editor pid taken
 
-abbrev pub EditsPmts : ℕ → CycleEditor PmtAlone → ℕ → List (List ℕ) → Type 0
-EditsPmts service editor pid taken = InSeededCycles (pmt_change (edit_of editor).service) (pmt_change service) editor pid taken
+abbrev pub EditsPmts : List ℕ → CycleEditor PmtAlone → ℕ → List (List ℕ) → Type 0
+EditsPmts services editor pid taken = InSeededCycles (pmt_change (edit_of editor).services) (pmt_change services) editor pid taken
 
 -- the packet that is left in place of another, if a packet passes
 abbrev pub left_by : Bool → List ℕ → Option (List ℕ)
 left_by passes packet = if passes then Some packet else None
 
 -- the editors stand for the packets that were processed
-pub record EditorsStand (way : Way) (service : ℕ) (editors : Editors) (met : List (List ℕ)) : Type 0 where
-  pub same_service : editors.alone.service ≡ service
-  pub pats : EditsPats way service editors.pat 0 (packets_on 0 met)
-  pub sdts : Reads (EditsSdts way service) editors.sdt 17 (packets_on 17 met)
-  pub pmts : AllStand (Reads (EditsPmts editors.alone.service)) editors.pmts (is_edited way service) met
+pub record EditorsStand (way : Way) (services : List ℕ) (editors : Editors) (met : List (List ℕ)) : Type 0 where
+  pub same_services : editors.alone.services ≡ services
+  pub pats : EditsPats way services editors.pat 0 (packets_on 0 met)
+  pub sdts : Reads (EditsSdts way services) editors.sdt 17 (packets_on 17 met)
+  pub pmts : AllStand (Reads (EditsPmts editors.alone.services)) editors.pmts (is_edited way services) met

@@ -1,6 +1,7 @@
--- Whether a service is there, so that there is something to keep or to remove.
+-- Whether one of the services is there, so that there is something to keep or to remove.
 -- This project's own rule, over the PAT and the PMTs in force (ISO/IEC 13818-1, 2.4.4.3 and 2.4.4.8).
 use Rattle.std.specs.Prelude.{ℕ, ◌&&◌, Bool, List, [], ◌∷◌, ◌++◌, Option, is_some}
+use Rattle.std.specs.List.{list_any}
 use Rattle.ts_packet.specs.declared.cell.Cell.{Cell}
 use Rattle.ts_packet.specs.Cells.{live_packets}
 use Rattle.ts_table_rows.specs.TableValues.{TableHolding}
@@ -14,10 +15,14 @@ abbrev pub is_there : Way → ℕ → Option TableHolding → Option TableHoldin
 is_there Keep service pat pmt = is_some (pid_for pat service) && is_some pmt
 is_there Remove service pat pmt = is_some (pid_for pat service)
 
--- it is there after these packets of any PID
-abbrev pub is_there_after : Way → ℕ → List (List ℕ) → Bool
-is_there_after way service packets = is_there way service (pat_of packets) (pmt_of service packets)
+-- one of the services is there if this PAT and these PMTs are in force
+abbrev pub is_any_there : Way → List ℕ → Option TableHolding → (ℕ → Option TableHolding) → Bool
+is_any_there way services pat pmts = list_any (λ service. is_there way service pat (pmts service)) services
 
--- it is there with a packet, after these cells
-abbrev pub finds_service : Way → ℕ → List Cell → List ℕ → ℕ → Bool
-finds_service way service history packet labels = is_there_after way service (live_packets history ++ packet ∷ [])
+-- one of them is there after these packets of any PID
+abbrev pub is_there_after : Way → List ℕ → List (List ℕ) → Bool
+is_there_after way services packets = is_any_there way services (pat_of packets) (λ service. pmt_of service packets)
+
+-- one of them is there with a packet, after these cells
+abbrev pub finds_service : Way → List ℕ → List Cell → List ℕ → ℕ → Bool
+finds_service way services history packet labels = is_there_after way services (live_packets history ++ packet ∷ [])

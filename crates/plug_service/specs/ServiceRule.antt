@@ -20,38 +20,38 @@ use Rattle.plug_service.specs.declared.action.Action.{Action}
 use Rattle.plug_service.specs.declared.action.Action.TheVariants.{EditPat, EditSdt, EditPmt, Pass, Drop}
 use Rattle.plug_service.specs.declared.service_conf.ServiceConf.{ServiceConf}
 
--- Whether the packets of a PID are edited as those of the service's PMT at the last of some packets of any PID: the service
--- that is kept has its PMT there. The packets on the PID for which this holds are those that the edit of PMTs takes. On
+-- Whether the packets of a PID are edited as those of PMTs at the last of some packets of any PID: a service that is kept has
+-- its PMT there. The packets on the PID for which this holds are those that the edit of PMTs takes. On
 -- PID 0 and PID 17 all packets are taken, and on PID 8191 none.
-abbrev pub is_edited : Way → ℕ → ℕ → List (List ℕ) → Bool
-is_edited way service pid packets = edits_pmt (action_after way service packets pid)
+abbrev pub is_edited : Way → List ℕ → ℕ → List (List ℕ) → Bool
+is_edited way services pid packets = edits_pmt (action_after way services packets pid)
 
 -- the packet in place of another, by what becomes of that one, after the packets before; none if it does not pass
-abbrev pub made_by : Way → ℕ → Action → List (List ℕ) → List ℕ → Option (List ℕ)
-made_by way service EditPat before packet = Some (replaced 0 (pat_change way service) (packets_on 0 before) packet)
-made_by way service EditSdt before packet = Some (replaced 17 (sdt_change way service) (packets_on 17 before) packet)
-made_by way service EditPmt before packet =
-    Some (replaced (pid_of packet) (pmt_change service) (taken_on (is_edited way service) (pid_of packet) before) packet)
-made_by way service Pass before packet = Some packet
-made_by way service Drop before packet = None
+abbrev pub made_by : Way → List ℕ → Action → List (List ℕ) → List ℕ → Option (List ℕ)
+made_by way services EditPat before packet = Some (replaced 0 (pat_change way services) (packets_on 0 before) packet)
+made_by way services EditSdt before packet = Some (replaced 17 (sdt_change way services) (packets_on 17 before) packet)
+made_by way services EditPmt before packet =
+    Some (replaced (pid_of packet) (pmt_change services) (taken_on (is_edited way services) (pid_of packet) before) packet)
+made_by way services Pass before packet = Some packet
+made_by way services Drop before packet = None
 
 -- the packet in place of another, after the packets before
-abbrev pub made_of : Way → ℕ → List (List ℕ) → List ℕ → Option (List ℕ)
-made_of way service before packet =
-    made_by way service (action_after way service (before ++ packet ∷ []) (pid_of packet)) before packet
+abbrev pub made_of : Way → List ℕ → List (List ℕ) → List ℕ → Option (List ℕ)
+made_of way services before packet =
+    made_by way services (action_after way services (before ++ packet ∷ []) (pid_of packet)) before packet
 
--- A service is kept alone, or removed; a packet that does not pass is dropped, or becomes a null packet. A run has a fault
--- in which the service never was there.
-abbrev pub service_rule : Way → ℕ → Bool → PluginRule
-service_rule way service stuffing =
-    record (silent_rule (λ history packet. action stuffing (made_of way service (live_packets history) packet))) {
-      has_fault = finds_none (finds_service way service);
+-- Services are kept alone, or removed; a packet that does not pass is dropped, or becomes a null packet. A run has a fault
+-- in which none of the services ever was there.
+abbrev pub service_rule : Way → List ℕ → Bool → PluginRule
+service_rule way services stuffing =
+    record (silent_rule (λ history packet. action stuffing (made_of way services (live_packets history) packet))) {
+      has_fault = finds_none (finds_service way services);
     }
 
 -- the rule of `zap`
 abbrev pub zap_rule : ServiceConf → PluginRule
-zap_rule conf = service_rule Keep conf.service conf.stuffing
+zap_rule conf = service_rule Keep conf.services conf.stuffing
 
 -- the rule of `svremove`
 abbrev pub svremove_rule : ServiceConf → PluginRule
-svremove_rule conf = service_rule Remove conf.service conf.stuffing
+svremove_rule conf = service_rule Remove conf.services conf.stuffing

@@ -6,32 +6,32 @@ use Rattle.ts_packet.specs.Cells.{live_packets}
 use Rattle.chain_model.specs.PluginRule.{PluginRule}
 use Rattle.plugin_trait.specs.Finding.{IsFirstFind, first_of}
 use Rattle.plugin_trait.specs.declared.first_find.FirstFind.{FirstFind}
-use Rattle.plug_service.specs.ActionsState.{FollowsService}
+use Rattle.plug_service.specs.ActionsState.{FollowsServices}
 use Rattle.plug_service.specs.EditorsState.{EditorsStand}
 use Rattle.plug_service.specs.Presence.{finds_service, is_there_after}
 use Rattle.plug_service.specs.ServiceRule.{service_rule}
 use Rattle.plug_service.specs.declared.way.Way.{Way}
 use Rattle.plug_service.specs.declared.service_steps.ServiceSteps.{ServiceSteps}
 
--- if the service is there, a position was noted, so that to note another one changes nothing
+-- if a service is there, a position was noted, so that to note another one changes nothing
 abbrev pub IsNoted : FirstFind → Bool → Type 0
 IsNoted found there = (at : ℕ) → first_of found.at at there ≡ found.at
 
--- tables in force, actions and editors are those of the packets, and it was noted if the service is there
-pub record Served (way : Way) (service : ℕ) (plugin : ServiceSteps) (met : List (List ℕ)) : Type 0 where
-  pub followed : FollowsService way service plugin.follower met
-  pub edited : EditorsStand way service plugin.editors met
-  pub noted : IsNoted plugin.found (is_there_after way service met)
+-- tables in force, actions and editors are those of the packets, and it was noted if a service is there
+pub record Served (way : Way) (services : List ℕ) (plugin : ServiceSteps) (met : List (List ℕ)) : Type 0 where
+  pub followed : FollowsServices way services plugin.follower met
+  pub edited : EditorsStand way services plugin.editors met
+  pub noted : IsNoted plugin.found (is_there_after way services met)
 
 -- the plugin stands for the packets, unless memory ran out
 abbrev pub StandsFor : ServiceSteps → List (List ℕ) → Type 0
-StandsFor plugin met = plugin.failed ≡ false → Served plugin.way plugin.service plugin met
+StandsFor plugin met = plugin.failed ≡ false → Served plugin.way plugin.services plugin met
 
--- the same for the cells that it met; and the position that is kept is the first at which the service was there
+-- the same for the cells that it met; and the position that is kept is the first at which one of the services was there
 abbrev pub MeetsHistory : ServiceSteps → List Cell → Type 0
 MeetsHistory plugin history =
-    StandsFor plugin (live_packets history) × IsFirstFind (finds_service plugin.way plugin.service) history plugin.found
+    StandsFor plugin (live_packets history) × IsFirstFind (finds_service plugin.way plugin.services) history plugin.found
 
 -- the rule of the plugin
 abbrev pub rule_of : ServiceSteps → PluginRule
-rule_of plugin = service_rule plugin.way plugin.service plugin.stuffing
+rule_of plugin = service_rule plugin.way plugin.services plugin.stuffing

@@ -14,6 +14,7 @@ use crate::limits::{PAT_PID, SDT_PID};
 use crate::pat_part::PatPart;
 use crate::pmt_alone::PmtAlone;
 use crate::sdt_part::SdtPart;
+use crate::service_list::ServiceList;
 use crate::way::Way;
 use plug_psi::{
     ByPid, Changes, CycleEditor, Follows, FollowsTables, InForce, Reading, SeesChanges,
@@ -22,10 +23,11 @@ use plug_psi::{
 use std::alloc::{AllocError, Global};
 use ts_packet::Packet;
 
-/// What reads and edits the tables of a PID that the service's PMT had.
+/// What reads and edits the tables of a PID that a service's PMT had.
 type PmtEditor = Reading<CycleEditor<PmtAlone>>;
 
-/// The editors of PID 0, whose tables the PATs in force have read, of PID 17 and of the PIDs that the service's PMT had.
+/// The editors of PID 0, whose tables the PATs in force have read, of PID 17 and of the PIDs that the services'
+/// PMTs had.
 #[derive(Drop)]
 pub(crate) struct Editors {
     pub(crate) pat: CycleEditor<PatPart>,
@@ -39,11 +41,24 @@ impl Editors {
     ghost use Rattle.plug_service.specs.EditorsState.{EditorsStand};
 
     /// No packet was processed.
-    pub(crate) fn new(alloc: Global, way: Way, service: u16) -> Result<Editors, AllocError>
-        ensures { IfOk result (λ editors. EditorsStand way service editors []) }
+    pub(crate) fn new(
+        alloc: Global,
+        way: Way,
+        services: &ServiceList,
+    ) -> Result<Editors, AllocError>
+        ensures { IfOk result (λ editors. EditorsStand way services.now editors []) }
     {
-        let pats = PatPart { way, service };
-        let sdts = SdtPart { way, service };
+        let alone = PmtAlone {
+            services: services.copy(alloc)?,
+        };
+        let pats = PatPart {
+            way,
+            services: services.copy(alloc)?,
+        };
+        let sdts = SdtPart {
+            way,
+            services: services.copy(alloc)?,
+        };
         let pat = CycleEditor::fresh(alloc, &pats, PAT_PID)?;
         // The largest value comes last: nothing can fail while it is held.
         let sdt = Reading::fresh(alloc, &sdts, SDT_PID)?;
@@ -51,7 +66,7 @@ impl Editors {
             pat,
             sdt,
             pmts: ByPid::new(alloc),
-            alone: PmtAlone { service },
+            alone,
         })
     }
 
@@ -73,14 +88,14 @@ impl Editors {
         packet: &mut Packet,
     ) -> Result<bool, AllocError>
         requires { IsEditable action (pid_of packet.old) }
-        ensures made { IfOk result (λ passes. (way : Way) (service : ℕ) (met : List (List ℕ)) → EditorsStand way service self.old met
-            → action ≡ action_after way service (met ++ packet.old ∷ []) (pid_of packet.old)
+        ensures made { IfOk result (λ passes. (way : Way) (services : List ℕ) (met : List (List ℕ)) → EditorsStand way services self.old met
+            → action ≡ action_after way services (met ++ packet.old ∷ []) (pid_of packet.old)
             → (pid_of packet.old ≡ 0 → Completes 0 (packets_on 0 met) packet.old (pats_in force.old))
-            → left_by passes packet.new ≡ made_by way service action met packet.old) }
-        ensures stands { OnOk result ((way : Way) (service : ℕ) (met : List (List ℕ)) → EditorsStand way service self.old met
-            → action ≡ action_after way service (met ++ packet.old ∷ []) (pid_of packet.old)
+            → left_by passes packet.new ≡ made_by way services action met packet.old) }
+        ensures stands { OnOk result ((way : Way) (services : List ℕ) (met : List (List ℕ)) → EditorsStand way services self.old met
+            → action ≡ action_after way services (met ++ packet.old ∷ []) (pid_of packet.old)
             → (pid_of packet.old ≡ 0 → Completes 0 (packets_on 0 met) packet.old (pats_in force.old))
-            → EditorsStand way service self.new (met ++ packet.old ∷ [])) }
+            → EditorsStand way services self.new (met ++ packet.old ∷ [])) }
         ensures force { OnOk result ((fed : List (List ℕ)) → Forced force.old fed → Forced force.new fed) }
         ensures as_it_was { OnErr result (packet.new ≡ packet.old) }
         ensures quiet { is_edit action ≡ false → IsOk result }

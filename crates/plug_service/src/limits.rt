@@ -1,4 +1,4 @@
-//! The PIDs of tables that are edited, and the greatest number of a service.
+//! The PIDs of tables that are edited, the greatest number of a service, and how many services there may be.
 
 /// The PID of the PAT (ISO/IEC 13818-1, 2.4.4.4).
 pub(crate) const PAT_PID: u16 = 0;
@@ -11,3 +11,6 @@ pub(crate) const LAST_FIXED_PID: u16 = 31;
 
 /// The greatest number of a service.
 pub(crate) const LAST_SERVICE: u64 = 65535;
+
+/// The most services of a plugin.
+pub(crate) const MOST_SERVICES: usize = 62;

@@ -1,9 +1,10 @@
-//! The edit of a PAT if a service is kept or removed (ISO/IEC 13818-1, 2.4.4.3).
+//! The edit of a PAT if services are kept or removed (ISO/IEC 13818-1, 2.4.4.3).
 
 ghost use Rattle.std.specs.Prelude.{◌≡◌, ◌<◌, filter, map};
 ghost use Rattle.ts_psi.specs.PatTables.{pat_held, service_item};
 ghost use Rattle.plug_service.specs.ServiceEdits.{entry_stays, with_items};
 
+use crate::service_list::ServiceList;
 use crate::services::stays;
 use crate::way::Way;
 use plug_psi::{Edited, SeededEdit, TableEdit, read_current, sections_or_same};
@@ -15,19 +16,19 @@ use ts_section::TableRun;
 #[derive(Drop)]
 pub(crate) struct PatPart {
     pub(crate) way: Way,
-    pub(crate) service: u16,
+    pub(crate) services: ServiceList,
 }
 
 impl TableEdit for PatPart {
     ghost use Rattle.plug_service.specs.ServiceEdits.{pat_change};
 
-    ghost change = { λ s run. pat_change s.way s.service run };
+    ghost change = { λ s run. pat_change s.way s.services run };
 
     fn edit(&self, alloc: Global, run: &TableRun) -> Result<Edited, AllocError> {
         let Some(pat) = read_current::<Pat>(alloc, run)? else {
             return Ok(Edited::same());
         };
-        let edited = part_of_pat(self.way, self.service, pat);
+        let edited = part_of_pat(self.way, &self.services, pat);
         sections_or_same(edited.sections(alloc))
     }
 }
@@ -37,41 +38,42 @@ impl SeededEdit for PatPart {
 
     type Seed = PatPart;
 
-    ghost change_on = { λ seed pid run. pat_change seed.way seed.service run };
+    ghost change_on = { λ seed pid run. pat_change seed.way seed.services run };
 
-    fn on(_alloc: Global, seed: &PatPart, _pid: u16) -> Result<PatPart, AllocError> {
+    fn on(alloc: Global, seed: &PatPart, _pid: u16) -> Result<PatPart, AllocError> {
+        let services = seed.services.copy(alloc)?;
         Ok(PatPart {
             way: seed.way,
-            service: seed.service,
+            services,
         })
     }
 }
 
 /// A PAT with the services that stay.
-fn part_of_pat(way: Way, service: u16, pat: Pat) -> Pat
-    ensures { pat_held result ≡ with_items (entry_stays way service) (pat_held pat) }
+fn part_of_pat(way: Way, services: &ServiceList, pat: Pat) -> Pat
+    ensures { pat_held result ≡ with_items (entry_stays way services.now) (pat_held pat) }
 {
     let Pat {
         version,
         current,
         stream_id,
         network_pid,
-        services,
+        services: entries,
     } = pat;
-    let mut services = services.into_vec();
-    leave_out(&mut services, way, service);
+    let mut entries = entries.into_vec();
+    leave_out(&mut entries, way, services);
     Pat {
         version,
         current,
         stream_id,
         network_pid,
-        services: PatServiceList::of(services),
+        services: PatServiceList::of(entries),
     }
 }
 
-/// Removes the services that do not stay.
-fn leave_out(services: &mut Vec<PatService>, way: Way, service: u16)
-    ensures { map service_item services.new.items ≡ filter (entry_stays way service) (map service_item services.old.items) }
+/// Removes the entries of services that do not stay.
+fn leave_out(entries: &mut Vec<PatService>, way: Way, services: &ServiceList)
+    ensures { map service_item entries.new.items ≡ filter (entry_stays way services.now) (map service_item entries.old.items) }
 {
-    services.retain(|entry| stays(way, service, entry.service_id));
+    entries.retain(|entry| stays(way, services, entry.service_id));
 }

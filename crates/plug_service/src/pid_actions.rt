@@ -7,47 +7,52 @@ ghost use Rattle.ts_table_rows.specs.TableValues.{TableHolding};
 ghost use Rattle.plug_psi.specs.InForce.{pat_of, pmt_of, service_in};
 ghost use Rattle.plug_psi.specs.ForceStands.{StandsFor as Forced};
 ghost use Rattle.plug_service.specs.Actions;
+ghost use Rattle.plug_psi.specs.ServicePids.{pids_of};
 ghost use Rattle.plug_service.specs.Actions.{action_of, other_pids, pids_besides};
 ghost use Rattle.plug_service.specs.ActionsState.{IsEditable, protected_pids};
-ghost use Rattle.plug_psi.specs.ServicePids.{pids_of};
 
 use crate::action::Action;
 use crate::limits::{LAST_FIXED_PID, PAT_PID, SDT_PID};
-use crate::services::{is_at, is_shared};
+use crate::service_list::ServiceList;
+use crate::services::{pmt_pids, shared_pids};
 use crate::way::Way;
-use plug_psi::{InForce, add_pids, number_and_pid, pid_of_service, tell};
+use plug_psi::{InForce, add_pids, number_and_pid, tell};
 use std::alloc::{AllocError, Global};
 use ts_packet::{NULL_PID, PID_COUNT, PidRow};
 use ts_psi::PatService;
 
-/// What becomes of the packets on each PID if a service is kept or removed, found by a look-up. It is renewed when
+/// What becomes of the packets on each PID if services are kept or removed, found by a look-up. It is renewed when
 /// another PAT or another PMT comes into force.
 #[derive(Drop)]
 pub(crate) struct PidActions {
     pub(crate) way: Way,
-    pub(crate) service: u16,
-    /// The PID of the service's PMT.
-    pub(crate) of_pmt: Option<u16>,
-    /// Whether another entry of the PAT has that PID.
-    pub(crate) shared: bool,
-    /// The flags of the PIDs of the service's PMT. If the service is removed, PIDs that PMTs of other services have are not
-    /// among them.
+    pub(crate) services: ServiceList,
+    /// The flags of the PIDs on which the services have their PMTs.
+    pub(crate) of_pmts: PidRow<bool>,
+    /// The flags of those of them that another entry of the PAT has.
+    pub(crate) shared: PidRow<bool>,
+    /// The flags of the PIDs that the services' PMTs have. If the services are removed, PIDs that PMTs of other services have
+    /// are not among them.
     pub(crate) flags: PidRow<bool>,
 }
 
 impl PidActions {
     ghost use Rattle.plug_service.specs.ActionsState.{ActionsStand};
 
-    /// Actions without tables, which are renewed before they are used. Allocates 8 KiB.
-    pub(crate) fn new(alloc: Global, way: Way, service: u16) -> Result<PidActions, AllocError>
+    /// Actions without tables, which are renewed before they are used. Allocates 24 KiB, and two bytes for each service.
+    pub(crate) fn new(
+        alloc: Global,
+        way: Way,
+        services: &ServiceList,
+    ) -> Result<PidActions, AllocError>
         ensures way { IfOk result (λ actions. actions.way ≡ way) }
-        ensures service { IfOk result (λ actions. actions.service ≡ service) }
+        ensures services { IfOk result (λ actions. actions.services ≡ services.now) }
     {
         Ok(PidActions {
             way,
-            service,
-            of_pmt: None,
-            shared: false,
+            services: services.copy(alloc)?,
+            of_pmts: PidRow::filled(alloc, false)?,
+            shared: PidRow::filled(alloc, false)?,
             flags: PidRow::filled(alloc, false)?,
         })
     }
@@ -57,14 +62,17 @@ impl PidActions {
     pub(crate) fn action(&self, pid: u16) -> Action
         requires { pid < PID_COUNT }
         ensures tells { (pat : Option TableHolding) (pmts : ℕ → Option TableHolding) → ActionsStand self.now pat pmts
-            → result ≡ action_of self.now.way self.now.service pat pmts pid }
+            → result ≡ action_of self.now.way self.now.services pat pmts pid }
         ensures editable { IsEditable result pid }
     {
-        let at = is_at(self.of_pmt, pid);
+        let of_pmt = self.of_pmts.get(pid);
         let flag = self.flags.get(pid);
         match self.way {
-            Way::Keep => edited_first(pid, kept_action(at, flag, pid)),
-            Way::Remove => edited_first(pid, removed_action(at, self.shared, flag, pid)),
+            Way::Keep => edited_first(pid, kept_action(of_pmt, flag, pid)),
+            Way::Remove => {
+                let shared = self.shared.get(pid);
+                edited_first(pid, removed_action(of_pmt, shared, flag, pid))
+            }
         }
     }
 
@@ -74,14 +82,15 @@ impl PidActions {
         ensures stands { OnOk result ((fed : List (List ℕ)) → Forced force.now fed
             → ActionsStand self.new (pat_of fed) (λ other. pmt_of other fed)) }
         ensures way { self.new.way ≡ self.old.way }
-        ensures service { self.new.service ≡ self.old.service }
+        ensures services { self.new.services ≡ self.old.services }
     {
-        let own = own_pids(alloc, force, self.service)?;
-        let others = pids_to_spare(alloc, self.way, force, self.service)?;
+        let own = own_pids(alloc, force, self.services.as_slice())?;
+        let others = pids_to_spare(alloc, self.way, force, &self.services)?;
+        let firsts = pmt_pids(alloc, force.pat(), self.services.as_slice())?;
+        let shared = shared_pids(alloc, force.pat(), &firsts)?;
         tell(&mut self.flags, &own, &others);
-        let of_pmt = pid_of_service(force.pat(), self.service);
-        self.of_pmt = of_pmt;
-        self.shared = is_shared(force.pat(), of_pmt);
+        tell(&mut self.of_pmts, &firsts, &[]);
+        tell(&mut self.shared, &shared, &[]);
         Ok(())
     }
 }
@@ -100,7 +109,7 @@ fn edited_first(pid: u16, other: Action) -> Action
     }
 }
 
-/// The action of packets on other PIDs, if the service is kept.
+/// The action of packets on other PIDs, if the services are kept.
 #[inline]
 fn kept_action(is_of_pmt: bool, is_in_pmt: bool, pid: u16) -> Action
     requires { pid < PID_COUNT }
@@ -120,7 +129,7 @@ fn kept_action(is_of_pmt: bool, is_in_pmt: bool, pid: u16) -> Action
     }
 }
 
-/// The action of packets on other PIDs, if the service is removed.
+/// The action of packets on other PIDs, if the services are removed.
 #[inline]
 fn removed_action(is_of_pmt: bool, is_shared: bool, is_in_pmt_alone: bool, pid: u16) -> Action
     ensures tells { result ≡ Actions.removed_action is_of_pmt is_shared is_in_pmt_alone pid }
@@ -139,79 +148,97 @@ fn removed_action(is_of_pmt: bool, is_shared: bool, is_in_pmt_alone: bool, pid: 
     }
 }
 
-/// The PIDs of the PMT in force of a service.
-fn own_pids(alloc: Global, force: &InForce, service: u16) -> Result<Vec<u16>, AllocError>
-    ensures { IfOk result (λ pids. (fed : List (List ℕ)) → Forced force.now fed → pids.items ≡ pids_of (pmt_of service fed)) }
+/// The PIDs that the PMTs in force of services have.
+fn own_pids(alloc: Global, force: &InForce, services: &[u16]) -> Result<Vec<u16>, AllocError>
+    ensures { IfOk result (λ pids. (fed : List (List ℕ)) → Forced force.now fed
+        → pids.items ≡ Actions.own_pids services.now (λ other. pmt_of other fed)) }
 {
     let mut pids = Vec::new(alloc);
-    if let Some(pmt) = force.pmt(service) {
-        add_pids(alloc, &mut pids, pmt)?;
+    for service in services {
+        add_own(alloc, &mut pids, force, *service)?;
     }
     Ok(pids)
 }
 
-/// The PIDs whose flags are not set even if the service's PMT has them: if the service is removed, those of the PMTs in
-/// force of other services; if it is kept, none.
-fn pids_to_spare(
-    alloc: Global,
-    way: Way,
-    force: &InForce,
-    service: u16,
-) -> Result<Vec<u16>, AllocError>
-    ensures { IfOk result (λ pids. (fed : List (List ℕ)) → Forced force.now fed
-        → pids.items ≡ protected_pids way service (pat_of fed) (λ other. pmt_of other fed)) }
-{
-    match way {
-        Way::Keep => Ok(Vec::new(alloc)),
-        Way::Remove => other_pids(alloc, force, service),
-    }
-}
-
-/// The PIDs of the PMTs in force of the other services of the PAT in force.
-fn other_pids(alloc: Global, force: &InForce, service: u16) -> Result<Vec<u16>, AllocError>
-    ensures { IfOk result (λ pids. (fed : List (List ℕ)) → Forced force.now fed
-        → pids.items ≡ other_pids service (pat_of fed) (λ other. pmt_of other fed)) }
-{
-    match force.pat() {
-        Some(pat) => pids_of_others(alloc, force, service, pat.services.as_slice()),
-        None => Ok(Vec::new(alloc)),
-    }
-}
-
-/// The PIDs of the PMTs in force of some services, except one service.
-fn pids_of_others(
-    alloc: Global,
-    force: &InForce,
-    service: u16,
-    services: &[PatService],
-) -> Result<Vec<u16>, AllocError>
-    ensures { IfOk result (λ pids. (fed : List (List ℕ)) → Forced force.now fed
-        → pids.items ≡ flat_map (pids_besides service (λ other. pmt_of other fed)) (filter_map service_in (map service_item services.now))) }
-{
-    let mut pids = Vec::new(alloc);
-    for entry in services {
-        let (id, _) = number_and_pid(entry);
-        add_besides(alloc, &mut pids, force, service, id)?;
-    }
-    Ok(pids)
-}
-
-/// Adds the PIDs of the PMT in force of the service `id`, unless this is `service`.
-fn add_besides(
+/// Adds the PIDs of the PMT in force of a service, if there is one.
+fn add_own(
     alloc: Global,
     pids: &mut Vec<u16>,
     force: &InForce,
     service: u16,
-    id: u16,
 ) -> Result<(), AllocError>
-    ensures { OnOk result ((fed : List (List ℕ)) (pid : ℕ) → Forced force.now fed
-        → pids.new.items ≡ pids.old.items ++ pids_besides service (λ other. pmt_of other fed) (id, pid)) }
+    ensures { OnOk result ((fed : List (List ℕ)) → Forced force.now fed
+        → pids.new.items ≡ pids.old.items ++ pids_of (pmt_of service fed)) }
 {
-    if id == service {
-        return Ok(());
-    }
-    match force.pmt(id) {
+    match force.pmt(service) {
         Some(pmt) => add_pids(alloc, pids, pmt),
         None => Ok(()),
     }
+}
+
+/// The PIDs whose flags are not set even if the services' PMTs have them: if the services are removed, those of the PMTs in
+/// force of other services; if they are kept, none.
+fn pids_to_spare(
+    alloc: Global,
+    way: Way,
+    force: &InForce,
+    services: &ServiceList,
+) -> Result<Vec<u16>, AllocError>
+    ensures { IfOk result (λ pids. (fed : List (List ℕ)) → Forced force.now fed
+        → pids.items ≡ protected_pids way services.now (pat_of fed) (λ other. pmt_of other fed)) }
+{
+    match way {
+        Way::Keep => Ok(Vec::new(alloc)),
+        Way::Remove => other_pids(alloc, force, services),
+    }
+}
+
+/// The PIDs of the PMTs in force of the other services of the PAT in force.
+fn other_pids(
+    alloc: Global,
+    force: &InForce,
+    services: &ServiceList,
+) -> Result<Vec<u16>, AllocError>
+    ensures { IfOk result (λ pids. (fed : List (List ℕ)) → Forced force.now fed
+        → pids.items ≡ other_pids services.now (pat_of fed) (λ other. pmt_of other fed)) }
+{
+    match force.pat() {
+        Some(pat) => pids_of_others(alloc, force, services, pat.services.as_slice()),
+        None => Ok(Vec::new(alloc)),
+    }
+}
+
+/// The PIDs of the PMTs in force of the entries of a PAT, except those of some services.
+fn pids_of_others(
+    alloc: Global,
+    force: &InForce,
+    services: &ServiceList,
+    entries: &[PatService],
+) -> Result<Vec<u16>, AllocError>
+    ensures { IfOk result (λ pids. (fed : List (List ℕ)) → Forced force.now fed
+        → pids.items ≡ flat_map (pids_besides services.now (λ other. pmt_of other fed)) (filter_map service_in (map service_item entries.now))) }
+{
+    let mut pids = Vec::new(alloc);
+    for entry in entries {
+        let (id, _) = number_and_pid(entry);
+        add_besides(alloc, &mut pids, force, services, id)?;
+    }
+    Ok(pids)
+}
+
+/// Adds the PIDs of the PMT in force of the service `id`, unless this is one of `services`.
+fn add_besides(
+    alloc: Global,
+    pids: &mut Vec<u16>,
+    force: &InForce,
+    services: &ServiceList,
+    id: u16,
+) -> Result<(), AllocError>
+    ensures { OnOk result ((fed : List (List ℕ)) (pid : ℕ) → Forced force.now fed
+        → pids.new.items ≡ pids.old.items ++ pids_besides services.now (λ other. pmt_of other fed) (id, pid)) }
+{
+    if services.has(id) {
+        return Ok(());
+    }
+    add_own(alloc, pids, force, id)
 }

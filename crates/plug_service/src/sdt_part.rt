@@ -1,10 +1,11 @@
-//! The edit of an SDT if a service is kept or removed (ETSI EN 300 468, 5.2.3).
+//! The edit of an SDT if services are kept or removed (ETSI EN 300 468, 5.2.3).
 
 ghost use Rattle.std.specs.Prelude.{◌≡◌, IfOk, filter, map};
 ghost use Rattle.ts_si.specs.SiTables.{sdt_held, service_item};
 ghost use Rattle.plug_service.specs.ServiceEdits;
 ghost use Rattle.plug_service.specs.ServiceEdits.{edited_sdt, service_stays, with_items};
 
+use crate::service_list::ServiceList;
 use crate::services::stays;
 use crate::way::Way;
 use plug_psi::{Edited, SeededEdit, TableEdit, read_current, sections_or_same};
@@ -12,24 +13,24 @@ use std::alloc::{AllocError, Global};
 use ts_section::TableRun;
 use ts_si::{Sdt, SdtService, SdtServiceList};
 
-/// Removes the services that do not stay from each current SDT of the actual transport stream that reads. If a service is
+/// Removes the services that do not stay from each current SDT of the actual transport stream that reads. If services are
 /// kept, only tables that are current and have the table_id of such an SDT are carried.
 #[derive(Drop)]
 pub(crate) struct SdtPart {
     pub(crate) way: Way,
-    pub(crate) service: u16,
+    pub(crate) services: ServiceList,
 }
 
 impl TableEdit for SdtPart {
     ghost use Rattle.plug_service.specs.ServiceEdits.{sdt_change};
 
-    ghost change = { λ s run. sdt_change s.way s.service run };
+    ghost change = { λ s run. sdt_change s.way s.services run };
 
     fn edit(&self, alloc: Global, run: &TableRun) -> Result<Edited, AllocError> {
         if self.way == Way::Keep && !is_current_sdt(run) {
             return Ok(Edited::away());
         }
-        edit_sdt(alloc, self.way, self.service, run)
+        edit_sdt(alloc, self.way, &self.services, run)
     }
 }
 
@@ -38,19 +39,25 @@ impl SeededEdit for SdtPart {
 
     type Seed = SdtPart;
 
-    ghost change_on = { λ seed pid run. sdt_change seed.way seed.service run };
+    ghost change_on = { λ seed pid run. sdt_change seed.way seed.services run };
 
-    fn on(_alloc: Global, seed: &SdtPart, _pid: u16) -> Result<SdtPart, AllocError> {
+    fn on(alloc: Global, seed: &SdtPart, _pid: u16) -> Result<SdtPart, AllocError> {
+        let services = seed.services.copy(alloc)?;
         Ok(SdtPart {
             way: seed.way,
-            service: seed.service,
+            services,
         })
     }
 }
 
 /// Removes the services that do not stay from a current SDT of the actual transport stream that reads.
-fn edit_sdt(alloc: Global, way: Way, service: u16, run: &TableRun) -> Result<Edited, AllocError>
-    ensures { IfOk result (λ edited. edited ≡ edited_sdt way service run.now) }
+fn edit_sdt(
+    alloc: Global,
+    way: Way,
+    services: &ServiceList,
+    run: &TableRun,
+) -> Result<Edited, AllocError>
+    ensures { IfOk result (λ edited. edited ≡ edited_sdt way services.now run.now) }
 {
     let Some(sdt) = read_current::<Sdt>(alloc, run)? else {
         return Ok(Edited::same());
@@ -58,7 +65,7 @@ fn edit_sdt(alloc: Global, way: Way, service: u16, run: &TableRun) -> Result<Edi
     if !sdt.actual {
         return Ok(Edited::same());
     }
-    let edited = part_of_sdt(way, service, sdt);
+    let edited = part_of_sdt(way, services, sdt);
     sections_or_same(edited.sections(alloc))
 }
 
@@ -76,8 +83,8 @@ fn is_current_sdt(run: &TableRun) -> bool
 }
 
 /// An SDT with the services that stay.
-fn part_of_sdt(way: Way, service: u16, sdt: Sdt) -> Sdt
-    ensures { sdt_held result ≡ with_items (service_stays way service) (sdt_held sdt) }
+fn part_of_sdt(way: Way, services: &ServiceList, sdt: Sdt) -> Sdt
+    ensures { sdt_held result ≡ with_items (service_stays way services.now) (sdt_held sdt) }
 {
     let Sdt {
         actual,
@@ -85,23 +92,23 @@ fn part_of_sdt(way: Way, service: u16, sdt: Sdt) -> Sdt
         current,
         stream_id,
         original_id,
-        services,
+        services: items,
     } = sdt;
-    let mut services = services.into_vec();
-    leave_out(&mut services, way, service);
+    let mut items = items.into_vec();
+    leave_out(&mut items, way, services);
     Sdt {
         actual,
         version,
         current,
         stream_id,
         original_id,
-        services: SdtServiceList::of(services),
+        services: SdtServiceList::of(items),
     }
 }
 
 /// Removes the services that do not stay.
-fn leave_out(services: &mut Vec<SdtService>, way: Way, service: u16)
-    ensures { map service_item services.new.items ≡ filter (service_stays way service) (map service_item services.old.items) }
+fn leave_out(items: &mut Vec<SdtService>, way: Way, services: &ServiceList)
+    ensures { map service_item items.new.items ≡ filter (service_stays way services.now) (map service_item items.old.items) }
 {
-    services.retain(|item| stays(way, service, item.service_id));
+    items.retain(|item| stays(way, services, item.service_id));
 }

@@ -4,7 +4,7 @@ ghost use Rattle.std.specs.Prelude.{◌≡◌, ℕ, ◌++◌, ◌∷◌, [], Lis
 ghost use Rattle.ts_packet.specs.Header.{pid_of};
 ghost use Rattle.plugin_trait.specs.Finding.{first_of};
 ghost use Rattle.plug_service.specs.Actions.{may_be_read};
-ghost use Rattle.plug_service.specs.ActionsState.{FollowsService};
+ghost use Rattle.plug_service.specs.ActionsState.{FollowsServices};
 ghost use Rattle.plug_service.specs.Presence.{is_there_after};
 ghost use Rattle.plug_service.specs.ServiceRule.{made_of};
 ghost use Rattle.plug_service.specs.ServiceState.{IsNoted};
@@ -12,23 +12,24 @@ ghost use Rattle.plug_service.specs.EditorsState.{left_by};
 
 use crate::editors::Editors;
 use crate::service_follower::ServiceFollower;
+use crate::service_list::ServiceList;
 use crate::way::Way;
 use plug_psi::{Changes, FailureLatch, Unedited, both, pid_of_service};
 use plugin_trait::{FirstFind, Outcome, Steps};
 use std::alloc::{AllocError, Global};
 use ts_packet::{Labels, Packet};
 
-/// Keeps one service of a transport stream alone, or removes it.
+/// Keeps some services of a transport stream alone, or removes them.
 ///
 /// If a step runs out of memory, every later step does too.
 #[derive(Drop)]
 pub struct ServiceSteps {
     pub(crate) way: Way,
-    pub(crate) service: u16,
+    pub(crate) services: ServiceList,
     pub(crate) stuffing: bool,
     pub(crate) follower: ServiceFollower,
     pub(crate) editors: Editors,
-    /// The first position at which the service was there.
+    /// The first position at which one of the services was there.
     pub(crate) found: FirstFind,
     pub(crate) failed: FailureLatch,
     pub(crate) alloc: Global,
@@ -41,21 +42,22 @@ impl ServiceSteps {
     pub(crate) fn new(
         alloc: Global,
         way: Way,
-        service: u16,
+        services: &ServiceList,
         stuffing: bool,
     ) -> Result<ServiceSteps, AllocError>
         ensures stands { IfOk result (λ plugin. StandsFor plugin []) }
         ensures found { IfOk result (λ plugin. plugin.found.at ≡ None) }
         ensures way { IfOk result (λ plugin. plugin.way ≡ way) }
-        ensures service { IfOk result (λ plugin. plugin.service ≡ service) }
+        ensures services { IfOk result (λ plugin. plugin.services ≡ services.now) }
         ensures stuffing { IfOk result (λ plugin. plugin.stuffing ≡ stuffing) }
     {
-        let follower = ServiceFollower::new(alloc, way, service)?;
-        let editors = Editors::new(alloc, way, service);
+        let own = services.copy(alloc)?;
+        let follower = ServiceFollower::new(alloc, way, services)?;
+        let editors = Editors::new(alloc, way, services);
         let (follower, editors) = both(follower, editors)?;
         Ok(ServiceSteps {
             way,
-            service,
+            services: own,
             stuffing,
             follower,
             editors,
@@ -65,17 +67,29 @@ impl ServiceSteps {
         })
     }
 
-    /// Why nothing was edited: by the tables in force the service is not there.
+    /// Why nothing was edited, or not all that was meant: no PAT is in force, or by the tables in force a service is not
+    /// there, of several the first.
     pub fn unedited(&self) -> Option<Unedited> {
-        let force = &self.follower.force;
-        if force.pat().is_none() {
+        if self.follower.force.pat().is_none() {
             return Some(Unedited::NoPat);
         }
-        if pid_of_service(force.pat(), self.service).is_none() {
-            return Some(Unedited::NoService(self.service));
+        for service in self.services.as_slice() {
+            let missing = self.missing(*service);
+            if missing.is_some() {
+                return missing;
+            }
+        }
+        None
+    }
+
+    /// What is missing of a service by the tables in force.
+    fn missing(&self, service: u16) -> Option<Unedited> {
+        let force = &self.follower.force;
+        if pid_of_service(force.pat(), service).is_none() {
+            return Some(Unedited::NoService(service));
         }
         match self.way {
-            Way::Keep if force.pmt(self.service).is_none() => Some(Unedited::NoPmt(self.service)),
+            Way::Keep if force.pmt(service).is_none() => Some(Unedited::NoPmt(service)),
             Way::Keep | Way::Remove => None,
         }
     }
@@ -91,15 +105,15 @@ impl ServiceSteps {
     #[inline]
     fn take(&mut self, at: u64, packet: &mut Packet) -> Result<bool, AllocError>
         ensures made { IfOk result (λ passes. (met : List (List ℕ)) → StandsFor self.old met
-            → left_by passes packet.new ≡ made_of self.old.way self.old.service met packet.old) }
+            → left_by passes packet.new ≡ made_of self.old.way self.old.services met packet.old) }
         ensures stands { OnOk result ((met : List (List ℕ)) → StandsFor self.old met → StandsFor self.new (met ++ packet.old ∷ [])) }
         ensures found { OnOk result ((met : List (List ℕ)) → StandsFor self.old met → self.new.found.at
-            ≡ first_of self.old.found.at at (is_there_after self.old.way self.old.service (met ++ packet.old ∷ []))) }
+            ≡ first_of self.old.found.at at (is_there_after self.old.way self.old.services (met ++ packet.old ∷ []))) }
         ensures not_found { OnErr result (self.new.found ≡ self.old.found) }
         ensures spent { OnErr result (self.new.failed ≡ true) }
         ensures as_it_was { OnErr result (packet.new ≡ packet.old) }
         ensures way { self.new.way ≡ self.old.way }
-        ensures service { self.new.service ≡ self.old.service }
+        ensures services { self.new.services ≡ self.old.services }
         ensures stuffing { self.new.stuffing ≡ self.old.stuffing }
         ensures quiet { (met : List (List ℕ)) → self.old.failed ≡ false → StandsFor self.old met
             → may_be_read (pid_of packet.old) met ≡ false → IsOk result }
@@ -113,19 +127,19 @@ impl ServiceSteps {
     /// Processes the next packet, unless memory ran out before. After `AllocError` the packet is as it was.
     #[inline]
     fn advance(&mut self, at: u64, packet: &mut Packet) -> Result<bool, AllocError>
-        ensures made { IfOk result (λ passes. (way : Way) (service : ℕ) (met : List (List ℕ)) → Served way service self.old met
-            → left_by passes packet.new ≡ made_of way service met packet.old) }
-        ensures stands { OnOk result ((way : Way) (service : ℕ) (met : List (List ℕ)) → Served way service self.old met
-            → Served way service self.new (met ++ packet.old ∷ [])) }
-        ensures found { OnOk result ((way : Way) (service : ℕ) (met : List (List ℕ)) → Served way service self.old met
-            → self.new.found.at ≡ first_of self.old.found.at at (is_there_after way service (met ++ packet.old ∷ []))) }
+        ensures made { IfOk result (λ passes. (way : Way) (services : List ℕ) (met : List (List ℕ)) → Served way services self.old met
+            → left_by passes packet.new ≡ made_of way services met packet.old) }
+        ensures stands { OnOk result ((way : Way) (services : List ℕ) (met : List (List ℕ)) → Served way services self.old met
+            → Served way services self.new (met ++ packet.old ∷ [])) }
+        ensures found { OnOk result ((way : Way) (services : List ℕ) (met : List (List ℕ)) → Served way services self.old met
+            → self.new.found.at ≡ first_of self.old.found.at at (is_there_after way services (met ++ packet.old ∷ []))) }
         ensures not_found { OnErr result (self.new.found ≡ self.old.found) }
         ensures as_it_was { OnErr result (packet.new ≡ packet.old) }
         ensures way { self.new.way ≡ self.old.way }
-        ensures service { self.new.service ≡ self.old.service }
+        ensures services { self.new.services ≡ self.old.services }
         ensures stuffing { self.new.stuffing ≡ self.old.stuffing }
         ensures failed { self.new.failed ≡ self.old.failed }
-        ensures quiet { (way : Way) (service : ℕ) (met : List (List ℕ)) → Served way service self.old met
+        ensures quiet { (way : Way) (services : List ℕ) (met : List (List ℕ)) → Served way services self.old met
             → may_be_read (pid_of packet.old) met ≡ false → IsOk result }
     {
         let (action, came) = self.follower.meet(self.alloc, at, packet)?;
@@ -136,13 +150,13 @@ impl ServiceSteps {
     }
 }
 
-/// Notes at a position whether the service is there, if other tables may be in force.
+/// Notes at a position whether one of the services is there, if other tables may be in force.
 #[inline]
 fn note_where(found: &mut FirstFind, at: u64, follower: &ServiceFollower, came: bool)
-    ensures { (way : Way) (service : ℕ) (before after : List (List ℕ)) → FollowsService way service follower.now after
-        → (came ≡ false → is_there_after way service after ≡ is_there_after way service before)
-        → IsNoted found.old (is_there_after way service before)
-        → found.new.at ≡ first_of found.old.at at (is_there_after way service after) }
+    ensures { (way : Way) (services : List ℕ) (before after : List (List ℕ)) → FollowsServices way services follower.now after
+        → (came ≡ false → is_there_after way services after ≡ is_there_after way services before)
+        → IsNoted found.old (is_there_after way services before)
+        → found.new.at ≡ first_of found.old.at at (is_there_after way services after) }
 {
     if !came {
         return;

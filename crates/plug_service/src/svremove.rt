@@ -10,12 +10,12 @@ use crate::way::Way;
 use plugin_trait::{Plugin, Silent};
 use std::alloc::{AllocError, Global};
 
-/// Removes one service of a transport stream.
+/// Removes some services of a transport stream.
 ///
-/// PID 0 carries the PAT without the entries of this service, and PID 17 the SDT of the actual transport stream without the
-/// service; other tables there stay. Packets on the PID of the service's first entry are dropped, or become null packets,
-/// unless another entry has that PID. The same holds for packets on those PIDs above 31 of its PMT in force that no PMT in
-/// force of another service of the PAT has. All other packets pass.
+/// PID 0 carries the PAT without the entries of these services, and PID 17 the SDT of the actual transport stream without
+/// the services; other tables there stay. Packets on the PIDs of the services' first entries are dropped, or become null
+/// packets, unless another entry has that PID, one that is the first of none of them. The same holds for packets on those
+/// PIDs above 31 of their PMTs in force that no PMT in force of another service of the PAT has. All other packets pass.
 pub type Svremove = Silent<ServiceSteps>;
 
 /// A new `svremove`, which has processed no packet. Its steps allocate memory. If a step runs out of memory, every later one
@@ -31,6 +31,6 @@ pub fn new_svremove(
     ensures preallocated { IfOk result (λ plugin. ⟦<Svremove as Plugin>⟧.preallocated plugin ≡ None) }
 {
     Ok(Silent {
-        steps: ServiceSteps::new(alloc, Way::Remove, conf.service as u16, conf.stuffing)?,
+        steps: ServiceSteps::new(alloc, Way::Remove, &conf.services, conf.stuffing)?,
     })
 }

@@ -12,10 +12,10 @@ use std::alloc::Global;
 // The options of `svremove`.
 static SVREMOVE: [OptionRow; 2] = [
     OptionRow {
-        word: OptionWord::Operand("operand", Takes::Number(1, LAST_SERVICE)),
+        word: OptionWord::Operands("operand", Takes::Number(1, LAST_SERVICE)),
         text: OptionText {
             value: "N",
-            meaning: "1 to 65535: the service's number in the PAT, which info reports beside its name",
+            meaning: "1 to 65535: a service's number in the PAT, which info reports beside its name; up to 62 of them",
             need: Need::Required,
             beside: Beside::Any,
         },
@@ -47,14 +47,14 @@ impl PluginSettings for SvremoveConf {
 
     fn help() -> PluginHelp {
         PluginHelp {
-            usage: "-P svremove N [--stuffing]",
-            rule: "The PAT and the SDT lose the service, and its PMT is dropped with those of its PIDs above 31 that no other service has; all else passes. It is driven by the tables in force, so it follows a service whose PIDs change under a new version.",
+            usage: "-P svremove [--stuffing] N ..",
+            rule: "The PAT and the SDT lose the services, and their PMTs are dropped with those of their PIDs above 31 that no other service has; all else passes. It is driven by the tables in force, so it follows a service whose PIDs change under a new version. Up to 62 services may be given, and one that is given twice counts once.",
         }
     }
 
-    fn read(_alloc: Global, found: &ParsedOptions) -> Result<SvremoveConf, Refusal> {
+    fn read(alloc: Global, found: &ParsedOptions) -> Result<SvremoveConf, Refusal> {
         Ok(SvremoveConf {
-            service: service_settings(found)?,
+            service: service_settings(alloc, found)?,
         })
     }
 

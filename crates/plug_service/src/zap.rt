@@ -10,12 +10,12 @@ use crate::way::Way;
 use plugin_trait::{Plugin, Silent};
 use std::alloc::{AllocError, Global};
 
-/// Keeps one service of a transport stream, and removes all others.
+/// Keeps some services of a transport stream, and removes all others.
 ///
-/// PID 0 carries the PAT with only the network entry and the entries of this service. PID 17 carries the SDT of the actual
-/// transport stream with only this service, and no other table. The PID of the service's first entry carries its current
-/// PMT, and no other table. Packets on the PIDs of its PMT in force pass: those of components, the PCR_PID and the CA_PIDs.
-/// All other packets are dropped, or become null packets.
+/// PID 0 carries the PAT with only the network entry and the entries of these services. PID 17 carries the SDT of the actual
+/// transport stream with only these services, and no other table. The PIDs of the services' first entries carry their
+/// current PMTs, and no other table; services on one PID have their PMTs there together. Packets on the PIDs of their PMTs in
+/// force pass: those of components, the PCR_PID and the CA_PIDs. All other packets are dropped, or become null packets.
 pub type Zap = Silent<ServiceSteps>;
 
 /// A new `zap`, which has processed no packet. Its steps allocate memory. If a step runs out of memory, every later one does
@@ -27,6 +27,6 @@ pub fn new_zap(alloc: Global, conf: &ServiceConf, _buffer: usize) -> Result<Zap,
     ensures preallocated { IfOk result (λ plugin. ⟦<Zap as Plugin>⟧.preallocated plugin ≡ None) }
 {
     Ok(Silent {
-        steps: ServiceSteps::new(alloc, Way::Keep, conf.service as u16, conf.stuffing)?,
+        steps: ServiceSteps::new(alloc, Way::Keep, &conf.services, conf.stuffing)?,
     })
 }

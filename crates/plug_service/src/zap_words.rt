@@ -12,10 +12,10 @@ use std::alloc::Global;
 // The options of `zap`.
 static ZAP: [OptionRow; 2] = [
     OptionRow {
-        word: OptionWord::Operand("operand", Takes::Number(1, LAST_SERVICE)),
+        word: OptionWord::Operands("operand", Takes::Number(1, LAST_SERVICE)),
         text: OptionText {
             value: "N",
-            meaning: "1 to 65535: the service's number in the PAT, which info reports beside its name",
+            meaning: "1 to 65535: a service's number in the PAT, which info reports beside its name; up to 62 of them",
             need: Need::Required,
             beside: Beside::Any,
         },
@@ -47,14 +47,14 @@ impl PluginSettings for ZapConf {
 
     fn help() -> PluginHelp {
         PluginHelp {
-            usage: "-P zap N [--stuffing]",
-            rule: "The PAT and the SDT have the service alone, its PMT stays, and so do the PIDs of its components, of its PCR and of its ECMs; all else is dropped, NIT, EIT and TDT too, also before the first PAT and PMT are complete. It is driven by the tables in force, so it follows a service whose PIDs change under a new version. Of a number that the PAT does not have, an empty PAT and SDT are left.",
+            usage: "-P zap [--stuffing] N ..",
+            rule: "The PAT and the SDT have the services alone, their PMTs stay, and so do the PIDs of their components, of their PCRs and of their ECMs; all else is dropped, NIT, EIT and TDT too, also before the first PAT and PMT are complete. It is driven by the tables in force, so it follows a service whose PIDs change under a new version. Where the PAT has none of the numbers, an empty PAT and SDT are left. Up to 62 services may be given, and one that is given twice counts once.",
         }
     }
 
-    fn read(_alloc: Global, found: &ParsedOptions) -> Result<ZapConf, Refusal> {
+    fn read(alloc: Global, found: &ParsedOptions) -> Result<ZapConf, Refusal> {
         Ok(ZapConf {
-            service: service_settings(found)?,
+            service: service_settings(alloc, found)?,
         })
     }
 

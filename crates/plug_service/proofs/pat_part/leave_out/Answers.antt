@@ -8,5 +8,5 @@ use Rattle.plug_service.proofs.pat_part.leave_out.Goals as goal
 
 pub returns : goal.returns
 returns c =
-    ap (map service_item) (filter_same _ (λ s. stays c.args.way c.args.service s.service_id) _ (λ x b f' k. search rules) _ _ c.retain.ensures.filtered)
-    ∙ kept_view service_item (λ s. stays c.args.way c.args.service s.service_id) (entry_stays c.args.way c.args.service) (service-stays c.args.way c.args.service) c.args.services.now.items
+    ap (map service_item) (filter_same _ (λ s. stays c.args.way c.args.services.now s.service_id) _ (λ x b f' k. search rules) _ _ c.retain.ensures.filtered)
+    ∙ kept_view service_item (λ s. stays c.args.way c.args.services.now s.service_id) (entry_stays c.args.way c.args.services.now) (service-stays c.args.way c.args.services.now) c.args.entries.now.items

@@ -9,5 +9,5 @@ use Rattle.plug_service.proofs.pid_actions.pids_of_others.Given as goal
 -- the PIDs so far and those of the services that are left
 abbrev pub invariant-loop-entry : goal.invariant-loop-entry
 invariant-loop-entry l = (fed : List (List ℕ)) → StandsFor l.force fed
-    → l.pids.items ++ flat_map (pids_besides l.service (λ other. pmt_of other fed)) (pairs_of (drop l.entry-index l.services))
-    ≡ flat_map (pids_besides l.service (λ other. pmt_of other fed)) (pairs_of l.services)
+    → l.pids.items ++ flat_map (pids_besides l.services (λ other. pmt_of other fed)) (pairs_of (drop l.entry-index l.entries))
+    ≡ flat_map (pids_besides l.services (λ other. pmt_of other fed)) (pairs_of l.entries)

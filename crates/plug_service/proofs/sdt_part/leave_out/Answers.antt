@@ -7,5 +7,5 @@ use Rattle.plug_service.proofs.sdt_part.leave_out.Goals as goal
 
 pub returns : goal.returns
 returns c =
-    ap (map service_item) (filter_same _ (λ s. stays c.args.way c.args.service s.service_id) _ (λ x b f' k. search rules) _ _ c.retain.ensures.filtered)
-    ∙ kept_view service_item (λ s. stays c.args.way c.args.service s.service_id) (service_stays c.args.way c.args.service) (λ x. refl) c.args.services.now.items
+    ap (map service_item) (filter_same _ (λ s. stays c.args.way c.args.services.now s.service_id) _ (λ x b f' k. search rules) _ _ c.retain.ensures.filtered)
+    ∙ kept_view service_item (λ s. stays c.args.way c.args.services.now s.service_id) (service_stays c.args.way c.args.services.now) (λ x. refl) c.args.items.now.items

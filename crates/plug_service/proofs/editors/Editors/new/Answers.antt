@@ -1,11 +1,13 @@
-use Rattle.std.proofs.Common.{refl}
+use Rattle.std.proofs.Common.{[], subst}
+use Rattle.plug_psi.specs.ReadingState.{Reads}
+use Rattle.plug_service.specs.EditorsState.{EditsPats, EditsSdts}
 use Rattle.plug_service.specs.ServiceRule.{is_edited}
 use Rattle.plug_service.proofs.editors.Editors.new.Goals as goal
 
 pub returns : goal.returns
 returns c = record {
-  same_service = refl;
-  pats = c.in_ok-pat.ensures;
-  sdts = c.in_ok-sdt.ensures;
-  pmts = c.new.ensures (record { service = c.args.service }) (is_edited c.args.way c.args.service);
+  same_services = c.in_ok-copy.ensures;
+  pats = subst (λ services. EditsPats c.args.way services c.in_ok-pat.pat 0 []) c.in_ok-copy-2.ensures c.in_ok-pat.ensures;
+  sdts = subst (λ services. Reads (EditsSdts c.args.way services) c.in_ok-sdt.sdt 17 []) c.in_ok-copy-3.ensures c.in_ok-sdt.ensures;
+  pmts = c.new.ensures (record { services = c.in_ok-copy.field-0 }) (is_edited c.args.way c.args.services.now);
 }

@@ -8,7 +8,7 @@ use Rattle.plug_service.proofs.service_follower.ServiceFollower.new.Goals as goa
 pub returns : goal.returns
 returns c = record {
   same_way = c.renew-renewed.ensures.way ∙ c.in_ok-actions.ensures.way;
-  same_service = c.renew-renewed.ensures.service ∙ c.in_ok-actions.ensures.service;
+  same_services = c.renew-renewed.ensures.services ∙ c.in_ok-actions.ensures.services;
   forced = subst (λ f. StandsFor f []) (sym c.in_ok-force-2.ensures.first) c.in_ok-force.ensures;
   fated = subst (λ r. OnOk r ((fed : List (List ℕ)) → StandsFor c.in_ok-force.force fed
       → ActionsStand c.renew-renewed.new.self (pat_of fed) (λ other. pmt_of other fed))) c.in_ok-force-2.ensures.second
