@@ -1,5 +1,5 @@
 -- Lemmas on the places at which packets are inserted, packet by packet.
-use Rattle.std.proofs.Common.{◌≡◌, ◌≢◌, ℕ, zero, suc, ◌+◌, ◌-◌, ◌<◌, ◌≤◌, ◌%◌, Bool, true, false, not, ◌&&◌, List, [], ◌∷◌, ◌++◌, length, take, get_or, slice_index, slice_get, Option, Some, refl, ap, sym, ◌∙◌, arith, append-nil}
+use Rattle.std.proofs.Common.{◌≡◌, ◌≢◌, ℕ, zero, suc, ◌+◌, ◌-◌, ◌<◌, ◌≤◌, ◌%◌, Bool, true, false, not, ◌&&◌, List, [], ◌∷◌, ◌++◌, length, take, get_or, slice_index, slice_get, Option, None, Some, refl, ap, sym, ◌∙◌, arith, append-nil}
 use Rattle.std.specs.Prelude.{if◌then◌else◌, nat_lt, reverse, unwrap_or}
 use Rattle.std.specs.Option.{option_map}
 use Rattle.std.proofs.Math.Nat.{mod-lt}
@@ -14,7 +14,9 @@ use Rattle.ts_packet.specs.Cells.{live_packets, packet_in}
 use Rattle.ts_packet.specs.Header.{with_counter}
 use Rattle.chain_model.specs.Apply.{apply_after}
 use Rattle.ts_packetize.specs.Packets.{packets_of}
-use Rattle.plug_inject.specs.InjectRule.{Injection, has_packets, injected, injecting_rule, injection_of, is_replaced, kept_before, packet_after, put_in_among, replaced_among, some_replaced}
+use Rattle.plug_inject.specs.Contents.{Contents, contents_for, cycle, has_packets}
+use Rattle.plug_inject.specs.Schedule.{packet_after}
+use Rattle.plug_inject.specs.InjectRule.{Injection, counted_after, injected, injecting_rule, injection_of, is_replaced, kept_before, put_among, put_for, put_in_among, replaced_among, some_replaced}
 use Rattle.plug_inject.specs.InjectedPlaces.{injected_packets, places_after, places_in}
 use Rattle.plug_inject.specs.declared.inject_conf.InjectConf.{InjectConf}
 use Rattle.plug_inject.specs.declared.inject_conf.InjectMode.TheVariants.{InterPacket}
@@ -60,7 +62,7 @@ last-false true false c e = absurd cc
 last-false false b c e = absurd cc
 
 -- a cycle that has packets has one for each number
-cycle-some : (contents : List (List ℕ)) (k : ℕ) → has_packets contents ≡ true → packet_after contents k ≡ Some (cycle_packet contents k)
+cycle-some : (contents : List (List ℕ)) (k : ℕ) → has_packets (cycle contents) ≡ true → packet_after (cycle contents) k ≡ Some (cycle_packet contents k)
 cycle-some [] k e = absurd cc
 cycle-some (packet ∷ packets) k e =
     let some : 0 < length (packet ∷ packets) = omega arith in
@@ -69,19 +71,30 @@ cycle-some (packet ∷ packets) k e =
 not-below : (n : ℕ) → nat_lt 0 n ≡ false → n ≡ 0
 not-below n e = let none : n ≤ 0 = ltb-false 0 n e in omega arith
 
--- a packet after others that is replaced or not, and what is kept of it: how many were inserted, and how many more
--- packets have to pass before one may be replaced
-module _ (how : Injection) (older : List (List ℕ)) (packet : List ℕ) where
-  put-packet : is_replaced how (replaced_among how older) packet ≡ true → injected how older packet ≡ cycle_packet how.contents (put_in_among (replaced_among how older))
+-- without counters that go on, the output is what is put in the place of a packet
+module _ (how : Injection) (plain : how.counted ≡ None) where
+  plainly : (older : List (List ℕ)) (packet : List ℕ) → injected how older packet ≡ put_for how (replaced_among how older) packet
+  plainly older packet = ap (λ (pid : Option ℕ). counted_after pid (put_among how older) (put_for how (replaced_among how older) packet)) plain
+
+-- a packet after others that is replaced or not, by one of a cycle, without counters that go on
+module _ (how : Injection) (plain : how.counted ≡ None) (contents : List (List ℕ)) (cycled : how.contents ≡ cycle contents) (older : List (List ℕ)) (packet : List ℕ) where
+  put-packet : is_replaced how (replaced_among how older) packet ≡ true → injected how older packet ≡ cycle_packet contents (put_in_among (replaced_among how older))
   put-packet e =
       let marks = replaced_among how older in
-      let some = cycle-some how.contents (put_in_among marks) (left-true (has_packets how.contents) _ e) in
-      ap (λ (b : Bool). if b then unwrap_or (packet_after how.contents (put_in_among marks)) packet else packet) e
+      let has : has_packets (cycle contents) ≡ true = ap has_packets (sym cycled) ∙ left-true (has_packets how.contents) _ e in
+      let some : packet_after how.contents (put_in_among marks) ≡ Some (cycle_packet contents (put_in_among marks)) =
+      ap (λ (c : Contents). packet_after c (put_in_among marks)) cycled ∙ cycle-some contents (put_in_among marks) has in
+      plainly how plain older packet
+      ∙ ap (λ (b : Bool). if b then unwrap_or (packet_after how.contents (put_in_among marks)) packet else packet) e
       ∙ ap (λ o. unwrap_or o packet) some
 
+module _ (how : Injection) (plain : how.counted ≡ None) (older : List (List ℕ)) (packet : List ℕ) where
   kept-packet : is_replaced how (replaced_among how older) packet ≡ false → injected how older packet ≡ packet
-  kept-packet e = ap (λ (b : Bool). if b then unwrap_or (packet_after how.contents (put_in_among (replaced_among how older))) packet else packet) e
+  kept-packet e = plainly how plain older packet ∙ ap (λ (b : Bool). if b then unwrap_or (packet_after how.contents (put_in_among (replaced_among how older))) packet else packet) e
 
+-- what is kept of a packet after others: how many were inserted, and how many more packets have to pass before one
+-- may be replaced
+module _ (how : Injection) (older : List (List ℕ)) (packet : List ℕ) where
   count-more : put_in_among (replaced_among how (packet ∷ older)) ≡ (if is_replaced how (replaced_among how older) packet then 1 else 0) + put_in_among (replaced_among how older)
   unfolding replaced_among
   count-more = sum_by-cons (λ (mark : Bool). if mark then 1 else 0) (is_replaced how (replaced_among how older) packet) (replaced_among how older)
@@ -162,15 +175,15 @@ apart-front true start least places first rest (suc j) (suc k) less lt = rest j 
 apart-front false start least places first rest j k less lt = rest j k less lt
 
 -- the same for any packets after others
-module _ (how : Injection) where
-  put-at : (older packets : List (List ℕ)) (k : ℕ) → k < length (places_after how older packets)
-      → PutAt (places_after how older packets) (made how older packets) how.contents (length older) (put_in_among (replaced_among how older)) k
-  put-at older [] k lt = absurd (omega arith)
-  put-at older (packet ∷ packets) k lt =
+module _ (how : Injection) (plain : how.counted ≡ None) where
+  put-at : (contents : List (List ℕ)) (cycled : how.contents ≡ cycle contents) (older packets : List (List ℕ)) (k : ℕ) → k < length (places_after how older packets)
+      → PutAt (places_after how older packets) (made how older packets) contents (length older) (put_in_among (replaced_among how older)) k
+  put-at contents cycled older [] k lt = absurd (omega arith)
+  put-at contents cycled older (packet ∷ packets) k lt =
       put-front (is_replaced how (replaced_among how older) packet) (length older) (put_in_among (replaced_among how older))
       (put_in_among (replaced_among how (packet ∷ older))) (places_after how (packet ∷ older) packets)
-      (injected how older packet) (made how (packet ∷ older) packets) how.contents
-      (put-packet how older packet) (count-more how older packet) (put-at (packet ∷ older) packets) k lt
+      (injected how older packet) (made how (packet ∷ older) packets) contents
+      (put-packet how plain contents cycled older packet) (count-more how older packet) (put-at contents cycled (packet ∷ older) packets) k lt
 
   others-stay : (older packets : List (List ℕ)) (i : ℕ) → ((k : ℕ) → k < length (places_after how older packets) → slice_index (places_after how older packets) k ≢ length older + i)
       → slice_get (made how older packets) i ≡ slice_get packets i
@@ -178,8 +191,10 @@ module _ (how : Injection) where
   others-stay older (packet ∷ packets) i others =
       other-front (is_replaced how (replaced_among how older) packet) (length older) (places_after how (packet ∷ older) packets)
       (injected how older packet) packet (made how (packet ∷ older) packets) packets
-      (kept-packet how older packet) (others-stay (packet ∷ older) packets) i others
+      (kept-packet how plain older packet) (others-stay (packet ∷ older) packets) i others
 
+-- and how far the places are apart
+module _ (how : Injection) where
   all-far : (older packets : List (List ℕ)) (k : ℕ) → k < length (places_after how older packets)
       → length older + wait_among how.kept (replaced_among how older) ≤ slice_index (places_after how older packets) k
   all-far older [] k lt = absurd (omega arith)
@@ -210,11 +225,18 @@ none-before how = refl
 none-first : (n : ℕ) → length {A = List ℕ} [] + n ≡ n
 none-first n = omega arith
 
-pub places-put_in : (conf : InjectConf) (sections : List (List ℕ)) (cells : List Cell) (k : ℕ) → k < length (places_in conf sections cells)
+-- without the options that say otherwise counters do not go on, and the contents are a cycle
+plain-of : (conf : InjectConf) (sections : List (List ℕ)) → conf.fix_counters ≡ false → (injection_of conf sections).counted ≡ None
+plain-of conf sections e = ap (λ (b : Bool). if b then Some conf.pid else None) e
+
+cycle-of : (conf : InjectConf) (sections : List (List ℕ)) → conf.every ≡ [] → (injection_of conf sections).contents ≡ cycle (packets_of conf.pid sections)
+cycle-of conf sections e = ap (λ (pairs : List (ℕ × ℕ)). contents_for conf.pid pairs sections) e
+
+pub places-put_in : (conf : InjectConf) (sections : List (List ℕ)) (cells : List Cell) (k : ℕ) → conf.every ≡ [] → conf.fix_counters ≡ false → k < length (places_in conf sections cells)
     → slice_get (injected_packets conf sections cells) (slice_index (places_in conf sections cells) k) ≡ Some (cycle_packet (packets_of conf.pid sections) k)
-places-put_in conf sections cells k lt =
+places-put_in conf sections cells k unpaired off lt =
     let how = injection_of conf sections in
-    let p = put-at how [] (live_packets cells) k lt in
+    let p = put-at how (plain-of conf sections off) (packets_of conf.pid sections) (cycle-of conf sections unpaired) [] (live_packets cells) k lt in
     let none : put_in_among (replaced_among how []) ≡ 0 = none-before how in
     let place : slice_index (places_in conf sections cells) k ≡ p.0 = p.1 ∙ none-first p.0 in
     let number : put_in_among (replaced_among how []) + k ≡ k = omega (arith, none) in
@@ -222,13 +244,13 @@ places-put_in conf sections cells k lt =
     ∙ (ap (λ (at : ℕ). slice_get (made how [] (live_packets cells)) at) place
     ∙ (p.2 ∙ ap (λ (n : ℕ). Some (cycle_packet (packets_of conf.pid sections) n)) number))
 
-pub places-others : (conf : InjectConf) (sections : List (List ℕ)) (cells : List Cell) (i : ℕ)
+pub places-others : (conf : InjectConf) (sections : List (List ℕ)) (cells : List Cell) (i : ℕ) → conf.fix_counters ≡ false
     → ((k : ℕ) → k < length (places_in conf sections cells) → slice_index (places_in conf sections cells) k ≢ i)
     → slice_get (injected_packets conf sections cells) i ≡ slice_get (live_packets cells) i
-places-others conf sections cells i others =
+places-others conf sections cells i off others =
     let how = injection_of conf sections in
     ap (λ (packets : List (List ℕ)). slice_get packets i) (made-of how [] cells)
-    ∙ others-stay how [] (live_packets cells) i (λ k lt e. others k lt (e ∙ none-first i))
+    ∙ others-stay how (plain-of conf sections off) [] (live_packets cells) i (λ k lt e. others k lt (e ∙ none-first i))
 
 pub places-rising : (conf : InjectConf) (sections : List (List ℕ)) (cells : List Cell) (j k : ℕ) → j < k → k < length (places_in conf sections cells)
     → slice_index (places_in conf sections cells) j < slice_index (places_in conf sections cells) k

@@ -1,11 +1,14 @@
 -- Lemmas on when a packet is replaced, and on how a packet changes the kept numbers.
 use Rattle.std.proofs.Common.{◌≡◌, ◌≢◌, ℕ, ◌-◌, ◌+◌, ◌≤◌, ◌<◌, zero, suc, Bool, true, false, not, ◌&&◌, ◌==◌, List, [], ◌∷◌, take, Some, refl, sym, ◌∙◌, ap, arith, zero-le}
-use Rattle.std.specs.Prelude.{if◌then◌else◌, nat_lt, unwrap_or}
+use Rattle.std.specs.Prelude.{if◌then◌else◌, nat_lt, unwrap_or, IfSome, Option, None}
 use Rattle.std.proofs.lemmas.Bool.{eq-eqb, lt-ltb, ne_eqb}
 use Rattle.std.proofs.lemmas.List.Sums.{sum_by-cons}
 use Rattle.ts_packet.specs.Header.{pid_of}
-use Rattle.plug_inject.specs.InjectRule.{Injection, has_packets, injected, is_replaced, packet_after, put_in_among, replaced_among, some_replaced}
+use Rattle.plug_inject.specs.Contents.{has_packets}
+use Rattle.plug_inject.specs.Schedule.{packet_after}
+use Rattle.plug_inject.specs.InjectRule.{Injection, is_replaced, put_among, put_for, put_in_among, replaced_among, some_replaced}
 use Rattle.plug_inject.specs.InjectState.{Counts, Stands, wait_among}
+use Rattle.plug_inject.specs.declared.counting.Counting.{Counting}
 
 -- one packet fewer has to pass
 pub wait-less : (kept : ℕ) (marks : List Bool) → wait_among (kept - 1) marks ≡ wait_among kept marks - 1
@@ -65,7 +68,7 @@ module _ {how : Injection} {put_in wait : ℕ} {older : List (List ℕ)} (counts
       and_true (has_packets how.contents) _ (sym contents) (and_true (pid_of packet == how.target) _ here (ap not none))
 
   -- a packet that is not replaced
-  pub passed : is_replaced how (replaced_among how older) packet ≡ false → packet ≡ injected how older packet
+  pub passed : is_replaced how (replaced_among how older) packet ≡ false → packet ≡ put_for how (replaced_among how older) packet
   passed e = sym (ap (λ b. if b then unwrap_or (packet_after how.contents (put_in_among (replaced_among how older))) packet else packet) e)
 
   pub passed_counts : is_replaced how (replaced_among how older) packet ≡ false → (left : ℕ) → left ≡ wait - 1 → Counts how put_in left (packet ∷ older)
@@ -79,10 +82,10 @@ module _ {how : Injection} {put_in wait : ℕ} {older : List (List ℕ)} (counts
       }
 
   -- a packet that is replaced
-  pub put : is_replaced how (replaced_among how older) packet ≡ true → (next : List ℕ) → Some next ≡ packet_after how.contents put_in → next ≡ injected how older packet
+  pub put : is_replaced how (replaced_among how older) packet ≡ true → (next : List ℕ) → next ≡ unwrap_or (packet_after how.contents put_in) packet → next ≡ put_for how (replaced_among how older) packet
   put e next is =
       sym (ap (λ b. if b then unwrap_or (packet_after how.contents (put_in_among (replaced_among how older))) packet else packet) e
-      ∙ ap (λ n. unwrap_or (packet_after how.contents n) packet) (sym counts.number) ∙ ap (λ o. unwrap_or o packet) (sym is))
+      ∙ ap (λ n. unwrap_or (packet_after how.contents n) packet) (sym counts.number) ∙ sym is)
 
   pub put_counts : is_replaced how (replaced_among how older) packet ≡ true → Counts how (put_in + 1) how.kept (packet ∷ older)
   unfolding replaced_among wait_among
@@ -95,6 +98,7 @@ module _ {how : Injection} {put_in wait : ℕ} {older : List (List ℕ)} (counts
       }
 
 -- before the first cell
-pub at_first : (how : Injection) → Stands how 0 0 []
-unfolding replaced_among wait_among
-at_first how = record { counts = record { number = refl; few = zero-le; turn = refl }; live = zero-le }
+pub at_first : (how : Injection) (put_in : ℕ) (counting : Option Counting) → put_in ≡ 0 → IfSome counting (λ (c : Counting). c.next ≡ 0) → Stands how put_in 0 counting []
+unfolding replaced_among wait_among put_among
+at_first how put_in None none fresh = record { counts = record { number = none; few = omega (arith, none); turn = refl }; numbers = fresh; live = zero-le }
+at_first how put_in (Some counting) none fresh = record { counts = record { number = none; few = omega (arith, none); turn = refl }; numbers = fresh; live = zero-le }

@@ -1,9 +1,12 @@
--- Valid settings of `inject`. ISO/IEC 13818-1, 2.4.3.2: PID 8191 is that of null packets, which carry no data. This
--- project's own rule: a distance is at least 1.
+-- Valid settings of `inject`. ISO/IEC 13818-1, 2.4.3.2: PID 8191 is that of null packets, which carry no data; 2.4.4: a
+-- table_id has 8 bits. This project's own rule: a distance is at least 1.
 use Rattle.std.specs.Prelude.{ℕ, ◌<◌, ◌≤◌, Option, None, Some}
+use Rattle.std.specs.List.{All}
+use Rattle.plugin_options.specs.Pairs.{IsPairWithin}
 use Rattle.plugin_options.specs.declared.limits.TheConstants.{MOST_NUMBER}
 use Rattle.ts_packet.specs.declared.numbers.TheConstants.{NULL_PID}
 use Rattle.plug_inject.specs.declared.inject_conf.InjectConf.{InjectConf}
+use Rattle.plug_inject.specs.declared.inject_conf.TheConstants.{LAST_TABLE}
 use Rattle.plug_inject.specs.declared.inject_conf.InjectMode.{InjectMode}
 use Rattle.plug_inject.specs.declared.inject_conf.InjectMode.TheVariants.{Replace, InterPacket}
 
@@ -17,7 +20,8 @@ abbrev pub IsValidMode : InjectMode → Type 0
 IsValidMode Replace = Unit {0}
 IsValidMode (InterPacket distance) = (1 ≤ distance) × (distance ≤ MOST_NUMBER)
 
--- the PID may carry sections, and a distance is in its range
+-- the PID may carry sections, and distances and table_ids are in their ranges
 pub record IsValidInject (c : InjectConf) : Type 0 where
   pub carrier : c.pid < NULL_PID
   pub mode : IsValidMode c.mode
+  pub every : All (IsPairWithin (0, LAST_TABLE) (1, MOST_NUMBER)) c.every

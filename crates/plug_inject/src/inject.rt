@@ -4,19 +4,21 @@
 //! settings, of these sections and of the packets, and every theorem about chains holds of it without a word on files.
 //! `rule_of` of `plugin_set` has the sections as an argument for every plugin, and all others ignore it.
 //!
-//! Its packets are made before the run, and which of them comes next is given by the number of those that were put in.
+//! Its packets are made before the run, and which of them comes next is given by the number of those that were put in:
+//! of one cycle of all sections, or of a schedule of several groups of them.
 //! Its two modes are one rule: the PID of the packets that may be replaced, and how many packets before one that is
 //! were not.
-ghost use Rattle.std.specs.Prelude.{◌≡◌, ◌<◌, ◌^◌, ◌∷◌, ℕ, List, [], None, IfOk, is_some};
-ghost use Rattle.plug_inject.specs.InjectRule.{inject_rule, injected, is_replaced, replaced_among, has_packets, packet_after};
+ghost use Rattle.std.specs.Prelude.{◌≡◌, ◌<◌, ◌^◌, ◌∷◌, ℕ, List, [], None, IfOk};
+ghost use Rattle.plug_inject.specs.InjectRule.{inject_rule, injected, is_replaced, put_for, replaced_among};
 ghost use Rattle.plug_inject.specs.InjectSettings.{IsValidInject};
-ghost use Rattle.plug_inject.specs.InjectState.{Counts, how_of};
+ghost use Rattle.plug_inject.specs.InjectState.{Counts, Numbers, how_of};
 
+use crate::counting::{Counting, count, counting_of};
 use crate::inject_conf::{InjectConf, InjectMode};
+use crate::supply::Supply;
 use plugin_trait::{FirstFind, Outcome, Plugin, Silent, Steps};
 use std::alloc::{AllocError, Global};
 use ts_packet::{Labels, NULL_PID, Packet};
-use ts_packetize::{PacketList, packets};
 use ts_section::Section;
 
 /// Inserts the packets of some sections repeatedly instead of packets on their PID, or of null packets.
@@ -26,11 +28,12 @@ pub struct InjectSteps {
     target: u16,
     /// How many packets just before a replaced one were not replaced.
     kept: u64,
-    contents: PacketList,
-    /// How many packets were inserted.
-    put_in: u64,
+    /// The packets that are inserted, and how many were.
+    supply: Supply,
     /// How many more packets have to pass before one may be replaced.
     wait: u64,
+    /// The counters of the PID of the sections, where all its packets get new ones.
+    counting: Option<Counting>,
     /// The first position at which a packet was replaced.
     found: FirstFind,
 }
@@ -51,7 +54,8 @@ pub fn new_inject(
     ensures preallocated { IfOk result (λ plugin. ⟦<Inject as Plugin>⟧.preallocated plugin ≡ None) }
 {
     let pid = conf.pid as u16;
-    let contents = packets(alloc, pid, sections.as_slice())?;
+    let supply = Supply::new(alloc, pid, conf.every.as_slice(), sections.as_slice())?;
+    let counting = counting_of(conf.fix_counters, pid);
     let (target, kept) = match conf.mode {
         InjectMode::Replace => (pid, 0),
         InjectMode::InterPacket(distance) => (NULL_PID, distance - 1),
@@ -59,9 +63,9 @@ pub fn new_inject(
     let steps = InjectSteps {
         target,
         kept,
-        contents,
-        put_in: 0,
+        supply,
         wait: 0,
+        counting,
         found: FirstFind::none(),
     };
     Ok(Silent { steps })
@@ -75,39 +79,26 @@ impl InjectSteps {
 
     /// Whether there are packets to insert.
     pub fn has_contents(&self) -> bool {
-        !self.contents.as_slice().is_empty()
+        self.supply.has_packets()
     }
 
     /// Whether a packet was inserted.
     pub fn has_inserted(&self) -> bool {
-        self.put_in > 0
+        self.supply.given() > 0
     }
 
-    /// The packet that is inserted next, if the cycle has packets.
-    fn next_packet(&self) -> Option<Packet>
-        ensures next { result ≡ packet_after self.now.contents self.now.put_in }
-        ensures some { is_some result ≡ has_packets self.now.contents }
-    {
-        let packets = self.contents.as_slice();
-        if packets.is_empty() {
-            return None;
-        }
-        let mut packet = packets[(self.put_in % packets.len() as u64) as usize];
-        packet.set_counter((self.put_in % 16) as u8);
-        Some(packet)
-    }
-
-    /// Processes the next packet, and replaces it if it is its turn. Returns whether it did.
+    /// Replaces the next packet if it is its turn. Returns whether it did.
     #[inline]
-    fn meet(&mut self, packet: &mut Packet) -> bool
-        requires { self.old.put_in < 2 ^ 63 }
-        ensures replaced { (older : List (List ℕ)) → Counts (how_of self.old) self.old.put_in self.old.wait older
+    fn put(&mut self, packet: &mut Packet) -> bool
+        requires { self.old.supply.given < 2 ^ 63 }
+        ensures replaced { (older : List (List ℕ)) → Counts (how_of self.old) self.old.supply.given self.old.wait older
             → result ≡ is_replaced (how_of self.old) (replaced_among (how_of self.old) older) packet.old }
-        ensures made { (older : List (List ℕ)) → Counts (how_of self.old) self.old.put_in self.old.wait older
-            → packet.new ≡ injected (how_of self.old) older packet.old }
-        ensures counts { (older : List (List ℕ)) → Counts (how_of self.old) self.old.put_in self.old.wait older
-            → Counts (how_of self.old) self.new.put_in self.new.wait (packet.old ∷ older) }
+        ensures made { (older : List (List ℕ)) → Counts (how_of self.old) self.old.supply.given self.old.wait older
+            → packet.new ≡ put_for (how_of self.old) (replaced_among (how_of self.old) older) packet.old }
+        ensures counts { (older : List (List ℕ)) → Counts (how_of self.old) self.old.supply.given self.old.wait older
+            → Counts (how_of self.old) self.new.supply.given self.new.wait (packet.old ∷ older) }
         ensures same { how_of self.new ≡ how_of self.old }
+        ensures counting { self.new.counting ≡ self.old.counting }
         ensures found { self.new.found ≡ self.old.found }
     {
         let wait = self.wait;
@@ -118,13 +109,33 @@ impl InjectSteps {
         if packet.pid() != self.target {
             return false;
         }
-        let Some(next) = self.next_packet() else {
-            return false;
-        };
-        *packet = next;
-        self.put_in += 1;
-        self.wait = self.kept;
-        true
+        if self.supply.has_packets() {
+            *packet = self.supply.next().unwrap_or(*packet);
+            self.wait = self.kept;
+            return true;
+        }
+        false
+    }
+
+    /// Processes the next packet, and replaces it if it is its turn. Returns whether it did.
+    #[inline]
+    fn meet(&mut self, packet: &mut Packet) -> bool
+        requires { self.old.supply.given < 2 ^ 63 }
+        ensures replaced { (older : List (List ℕ)) → Counts (how_of self.old) self.old.supply.given self.old.wait older
+            → result ≡ is_replaced (how_of self.old) (replaced_among (how_of self.old) older) packet.old }
+        ensures made { (older : List (List ℕ)) → Counts (how_of self.old) self.old.supply.given self.old.wait older
+            → Numbers (how_of self.old) self.old.counting older → packet.new ≡ injected (how_of self.old) older packet.old }
+        ensures counts { (older : List (List ℕ)) → Counts (how_of self.old) self.old.supply.given self.old.wait older
+            → Counts (how_of self.old) self.new.supply.given self.new.wait (packet.old ∷ older) }
+        ensures numbers { (older : List (List ℕ)) → Counts (how_of self.old) self.old.supply.given self.old.wait older
+            → Numbers (how_of self.old) self.old.counting older
+            → Numbers (how_of self.old) self.new.counting (packet.old ∷ older) }
+        ensures same { how_of self.new ≡ how_of self.old }
+        ensures found { self.new.found ≡ self.old.found }
+    {
+        let replaced = self.put(packet);
+        count(&mut self.counting, packet);
+        replaced
     }
 }
 

@@ -5,11 +5,15 @@
 ghost use Rattle.std.specs.Prelude.{◌≡◌};
 ghost use Rattle.plug_inject.specs.InjectSettings.{mode_of};
 
+use plugin_options::PairList;
 use ts_outside::NameText;
 use ts_packet::NULL_PID;
 
 /// The greatest PID that may carry sections.
 pub const LAST_CARRIER: u64 = NULL_PID as u64 - 1;
+
+/// The greatest table_id.
+pub const LAST_TABLE: u64 = 255;
 
 /// Settings of `inject`, which replaces packets by those of sections.
 #[derive(Drop)]
@@ -20,6 +24,11 @@ pub struct InjectConf {
     pub pid: u64,
     /// Which packets are replaced.
     pub mode: InjectMode,
+    /// Whether the counters of all packets that leave on the PID go on.
+    pub fix_counters: bool,
+    /// Pairs of a table_id and the least distance of its sections in packets that are put in, 1 to 2^60; where there
+    /// are none, all sections are packed together.
+    pub every: PairList,
 }
 
 /// Which packets are replaced.

@@ -4,16 +4,16 @@ ghost use Rattle.plugin_options.specs.Refusal.{ReadsParsed};
 ghost use Rattle.plug_inject.specs.InjectSettings.{IsValidInject};
 ghost use Rattle.plug_inject.specs.InjectWords.{inject};
 
-use crate::inject_conf::{InjectConf, InjectMode, LAST_CARRIER};
+use crate::inject_conf::{InjectConf, InjectMode, LAST_CARRIER, LAST_TABLE};
 use plugin_entry::{PluginHelp, PluginSettings};
 use plugin_options::{
-    Beside, MOST_NUMBER, Need, OptionRow, OptionText, OptionWord, ParsedOptions, Refusal, Takes,
-    WordsRule,
+    Beside, MOST_NUMBER, Need, OptionRow, OptionText, OptionWord, ParsedOptions, Refusal, Sign,
+    Takes, WordsRule,
 };
 use std::alloc::Global;
 
 // The options of `inject`.
-static INJECT: [OptionRow; 4] = [
+static INJECT: [OptionRow; 6] = [
     OptionRow {
         word: OptionWord::Operand("operand", Takes::Text),
         text: OptionText {
@@ -50,6 +50,27 @@ static INJECT: [OptionRow; 4] = [
             beside: Beside::Choice(1),
         },
     },
+    OptionRow {
+        word: OptionWord::Value(
+            "every",
+            Takes::Pairs(Sign::Slash, (0, LAST_TABLE), (1, MOST_NUMBER)),
+        ),
+        text: OptionText {
+            value: "TID/N,..",
+            meaning: "TID 0 to 255, N 1 to 2^60: put in the sections one by one, those of table_id TID every N packets that are put in, the first pair first, and all others in between",
+            need: Need::Free,
+            beside: Beside::Any,
+        },
+    },
+    OptionRow {
+        word: OptionWord::Flag("fix-counters"),
+        text: OptionText {
+            value: "",
+            meaning: "the counters of all packets that leave on that PID go on from 0, put in or not",
+            need: Need::Free,
+            beside: Beside::Any,
+        },
+    },
 ];
 
 // Whether the file, the PID and one of the two modes are given.
@@ -78,6 +99,7 @@ fn inject_settings(alloc: Global, found: &ParsedOptions) -> Result<InjectConf, R
     }
     let pid = found.number_or("pid", 0, LAST_CARRIER, 0)?;
     let inter_packet = found.number("inter-packet", 1, MOST_NUMBER)?;
+    let every = found.pair_list(alloc, "every", '/', (0, LAST_TABLE), (1, MOST_NUMBER))?;
     if !goes_together(found) {
         return Err(Refusal::Broken(WordsRule::Conflict));
     }
@@ -86,6 +108,8 @@ fn inject_settings(alloc: Global, found: &ParsedOptions) -> Result<InjectConf, R
         file,
         pid,
         mode: InjectMode::of(inter_packet),
+        fix_counters: found.has_flag("fix-counters"),
+        every,
     })
 }
 
@@ -105,7 +129,7 @@ impl PluginSettings for InjectConf {
 
     fn help() -> PluginHelp {
         PluginHelp {
-            usage: "-P inject FILE --pid PID --replace | --inter-packet N",
+            usage: "-P inject FILE --pid PID --replace | --inter-packet N [--every TID/N,..] [--fix-counters]",
             rule: "The packets of these sections are put in over and over again, with counters from 0 on, and all other packets pass. The file is read once, before the input is opened. --inter-packet puts nothing into a stream without null packets: --add-input-stuffing 1/99 puts one into each hundred.",
         }
     }

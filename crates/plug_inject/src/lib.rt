@@ -3,11 +3,16 @@
 //! clauses of `Plugin`.
 #![tactic(auto)]
 
+mod counting;
+mod group;
 mod inject;
 mod inject_conf;
 mod inject_words;
 mod laws;
+mod schedule;
+mod supply;
+mod turn;
 
 pub use inject::{Inject, InjectSteps, new_inject};
-pub use inject_conf::{InjectConf, InjectMode, LAST_CARRIER};
+pub use inject_conf::{InjectConf, InjectMode, LAST_CARRIER, LAST_TABLE};
 pub use laws::cycles_are_put_in;

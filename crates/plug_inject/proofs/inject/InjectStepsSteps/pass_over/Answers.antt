@@ -8,6 +8,6 @@ use Rattle.plug_inject.proofs.inject.InjectStepsSteps.pass_over.Goals as goal
 pub returns-clause-meets : goal.returns-clause-meets
 returns-clause-meets c = λ history mark stands count.
     let s = c.args.self.now in (
-      (stands-dropped (how_of s) s.put_in s.wait history stands.0.0, find-dropped (replaces (how_of s)) history s.found stands.0.1),
+      (stands-dropped (how_of s) s.supply.given s.wait s.counting history stands.0.0, find-dropped (replaces (how_of s)) history s.found stands.0.1),
       marks-more history Dropped mark stands.1,
     )

@@ -19,8 +19,9 @@ returns-clause-meets c = λ history mark stands count.
     find-met (replaces (how_of old)) history c.args.packet.now c.args._labels.now c.args.at c.meet-replaced.result old.found c.meet.new.self
     stands.0.1 count (c.meet-replaced.ensures.replaced older stands.0.0.counts)
     (c.meet.ensures ∙ ap (λ (f : FirstFind). first_of f.at c.args.at c.meet-replaced.result) c.meet-replaced.ensures.found) in (
-      subst (λ (how : Injection). Stands how new.put_in new.wait (history ++ cell ∷ []) × IsFirstFind (replaces how) (history ++ cell ∷ []) c.meet.new.self) (sym c.meet-replaced.ensures.same) (
-        stands-live (how_of old) old.put_in old.wait new.put_in new.wait history c.args.packet.now c.args._labels.now stands.0.0 (c.meet-replaced.ensures.counts older stands.0.0.counts),
+      subst (λ (how : Injection). Stands how new.supply.given new.wait new.counting (history ++ cell ∷ []) × IsFirstFind (replaces how) (history ++ cell ∷ []) c.meet.new.self) (sym c.meet-replaced.ensures.same) (
+        stands-live (how_of old) old.supply.given old.wait new.supply.given new.wait old.counting new.counting history c.args.packet.now c.args._labels.now stands.0.0
+            (c.meet-replaced.ensures.counts older stands.0.0.counts) (c.meet-replaced.ensures.numbers older stands.0.0.counts stands.0.0.numbers),
         found,
       ),
       marks-more history cell mark stands.1,
