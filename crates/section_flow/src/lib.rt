@@ -1,0 +1,16 @@
+//! Sections of one PID that are edited as they pass. Packets come in one by one, each with the edit that applies then;
+//! what leaves in their places is packets of the edited sections, and null packets where none waits. The layer above
+//! uses `Flow::step`.
+#![tactic(auto)]
+
+mod carrier;
+mod edit;
+mod flow;
+mod laws;
+mod next;
+mod packing;
+mod room;
+
+pub use edit::SectionEdit;
+pub use flow::Flow;
+pub use laws::{each_place_by_itself, edited_sections_are_read, other_packets_are_untouched};
