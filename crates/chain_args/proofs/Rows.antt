@@ -35,6 +35,9 @@ hexadecimal-pid : plan_of (codes "-I" ∷ codes "null" ∷ codes "4" ∷ codes "
         max_flushed_packets = None;
         max_input_packets = None;
         ignore_joint_termination = false;
+        bare = false;
+        endless = false;
+        fail_on_faults = false;
         threads = Auto;
       };
       input = Null 4;
@@ -67,6 +70,9 @@ one-thread : plan_of (codes "--threads" ∷ codes "1" ∷ codes "-I" ∷ codes "
         max_flushed_packets = None;
         max_input_packets = None;
         ignore_joint_termination = false;
+        bare = false;
+        endless = false;
+        fail_on_faults = false;
         threads = One;
       };
       input = Null 4;

@@ -34,6 +34,9 @@ general_rows = record { name = codes "add-start-stuffing"; kind = value (number 
     ∷ record { name = codes "max-flushed-packets"; kind = value (number 1 1000000) }
     ∷ record { name = codes "max-input-packets"; kind = value (number 1 1000000) }
     ∷ record { name = codes "ignore-joint-termination"; kind = flag }
+    ∷ record { name = codes "bare"; kind = flag }
+    ∷ record { name = codes "endless"; kind = flag }
+    ∷ record { name = codes "fail-on-faults"; kind = flag }
     ∷ record { name = codes "threads"; kind = value (known is_threads) }
     ∷ []
 
@@ -50,6 +53,9 @@ general_settings found = record {
   max_flushed_packets = read_value (number_within 1 1000000) (codes "max-flushed-packets") found;
   max_input_packets = read_value (number_within 1 1000000) (codes "max-input-packets") found;
   ignore_joint_termination = has_flag (codes "ignore-joint-termination") found;
+  bare = has_flag (codes "bare") found;
+  endless = has_flag (codes "endless") found;
+  fail_on_faults = has_flag (codes "fail-on-faults") found;
   threads = unwrap_or (read_value threads_named (codes "threads") found) Auto;
 }
 

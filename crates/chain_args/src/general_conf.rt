@@ -21,6 +21,13 @@ pub struct GeneralConf {
     pub max_input_packets: Option<u64>,
     /// Whether joint termination is ignored: a plugin that uses it does not end the chain.
     pub ignore_joint_termination: bool,
+    /// Whether the report has its plugins' lines as they are, without their numbers and names, and no line for the end.
+    pub bare: bool,
+    /// Whether the plain end of the input is no good end of the run: the run ends with exit number 9 then, in the place of 0.
+    pub endless: bool,
+    /// Whether a fault that a plugin found before the cut, or that it found nothing to do there, is no good end of the run: the run
+    /// ends with exit number 9 then, in the place of 0.
+    pub fail_on_faults: bool,
     /// How many threads serve the stages of the chain; `Auto` where it is not given.
     pub threads: StageThreads,
 }

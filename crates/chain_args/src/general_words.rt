@@ -23,7 +23,7 @@ const MOST_SIZE: u64 = 1_000_000;
 const MOST_BETWEEN: u64 = 1_000;
 
 // The general options by their names.
-static GENERAL: [OptionRow; 8] = [
+static GENERAL: [OptionRow; 11] = [
     OptionRow {
         word: OptionWord::Value("add-start-stuffing", Takes::Number(0, MOST_SIZE)),
         text: OptionText {
@@ -91,6 +91,33 @@ static GENERAL: [OptionRow; 8] = [
         },
     },
     OptionRow {
+        word: OptionWord::Flag("bare"),
+        text: OptionText {
+            value: "",
+            meaning: "report lines go without the number and the name of their plugin, and the line for the end goes to standard error",
+            need: Need::Free,
+            beside: Beside::Any,
+        },
+    },
+    OptionRow {
+        word: OptionWord::Flag("endless"),
+        text: OptionText {
+            value: "",
+            meaning: "the input is to have no end: where the run is done because it came to its plain end, the exit number is 9 in the place of 0",
+            need: Need::Free,
+            beside: Beside::Any,
+        },
+    },
+    OptionRow {
+        word: OptionWord::Flag("fail-on-faults"),
+        text: OptionText {
+            value: "",
+            meaning: "where the run is done and a plugin reports a fault, or found nothing to edit, to insert or to keep, the exit number is 9 in the place of 0",
+            need: Need::Free,
+            beside: Beside::Any,
+        },
+    },
+    OptionRow {
         word: OptionWord::Value("threads", Takes::Choice(&["1", "auto"])),
         text: OptionText {
             value: "N",
@@ -113,6 +140,10 @@ fn general_settings(found: &ParsedOptions) -> Result<GeneralConf, Refusal>
     let max_flushed_packets = found.number("max-flushed-packets", 1, most)?;
     let max_input_packets = found.number("max-input-packets", 1, most)?;
     let threads = read_threads(found)?;
+    let ignore_joint_termination = found.has_flag("ignore-joint-termination");
+    let bare = found.has_flag("bare");
+    let endless = found.has_flag("endless");
+    let fail_on_faults = found.has_flag("fail-on-faults");
     Ok(GeneralConf {
         add_start_stuffing,
         add_stop_stuffing,
@@ -120,7 +151,10 @@ fn general_settings(found: &ParsedOptions) -> Result<GeneralConf, Refusal>
         buffer_packets,
         max_flushed_packets,
         max_input_packets,
-        ignore_joint_termination: found.has_flag("ignore-joint-termination"),
+        ignore_joint_termination,
+        bare,
+        endless,
+        fail_on_faults,
         threads,
     })
 }

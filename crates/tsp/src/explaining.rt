@@ -34,7 +34,7 @@ fn explain_run(rt: &HostRuntime, plan: &Plan, status: &Status, desk: &OsDesk) {
     }
 }
 
-/// Explains a run of a plan that was `Done`, and in which plugins were idle or tables changed without a new version.
+/// Explains a run of a plan that went well, and in which plugins were idle or tables changed without a new version.
 fn explain_notes(rt: &HostRuntime, plan: &Plan, notes: &PluginNotes) {
     if let Ok(text) = notes_text(rt.alloc(), plan, notes) {
         if !text.is_empty() {
@@ -48,7 +48,9 @@ fn explain_notes(rt: &HostRuntime, plan: &Plan, notes: &PluginNotes) {
 pub(crate) fn explain(rt: &HostRuntime, words: &[String], end: &CallEnd, desk: &OsDesk) {
     match (&end.status, &end.plan) {
         (Status::Words(WordsFault::At { word, rule }), _) => explain_words(rt, words, *word, *rule),
-        (Status::Done, Some(plan)) => explain_notes(rt, plan, &end.notes),
+        (Status::Done | Status::InputEnded | Status::FaultFound, Some(plan)) => {
+            explain_notes(rt, plan, &end.notes);
+        }
         (status, Some(plan)) => explain_run(rt, plan, status, desk),
         (_, None) => {}
     }

@@ -1,6 +1,6 @@
 -- The headline, from the stream theorem.
 use Rattle.std.proofs.Common.{◌≡◌, ◌⊎◌, inl, inr, ℕ, zero, suc, List, [], ◌∷◌, ◌++◌, ◌+◌, length, Bool, true, false, if◌then◌else◌, Option, Some, None, refl, ap, sym, ◌∙◌, subst, arith, append-nil}
-use Rattle.std.specs.Prelude.{IsTrue, IfSome, is_some}
+use Rattle.std.specs.Prelude.{IsTrue, IfSome, is_some, ◌&&◌}
 use Rattle.std.proofs.lemmas.Bool.{cond-true}
 use Rattle.chain_model.specs.declared.input_end.InputEnd.TheVariants.{End, Sync, ReadFault, TooLong}
 use Rattle.chain_model.specs.declared.cause.Cause.{Cause}
@@ -9,7 +9,7 @@ use Rattle.std.specs.List.{AllByRecursion}
 use Rattle.chain_core.proofs.Facts.{all_by_recursion}
 use Rattle.chain_model.specs.Cut.{is_fault}
 use Rattle.chain_model.specs.InputList.{InputList, input_of_bytes}
-use Rattle.chain_model.specs.PureRun.{Chain, chain_cut, pure_run, written_to, reported_at}
+use Rattle.chain_model.specs.PureRun.{Chain, chain_cause, chain_cut, pure_run, written_to}
 use Rattle.chain_model.specs.Stuffed.{Stuffing, stuffed}
 use Rattle.plugin_set.specs.declared.plugin_item.PluginItem.{PluginItem}
 use Rattle.chain_args.specs.PlanOf.{plan_of}
@@ -17,6 +17,7 @@ use Rattle.chain_args.specs.WordsFault.{IsFirstFault}
 use Rattle.chain_args.specs.declared.input_conf.InputConf.{InputConf}
 use Rattle.chain_args.specs.declared.input_conf.InputConf.TheVariants as input
 use Rattle.chain_args.specs.declared.plan_type.Plan.{Plan}
+use Rattle.chain_args.specs.declared.general_conf.GeneralConf.{GeneralConf}
 use Rattle.plugin_options.specs.declared.words_rule.WordsRule.{WordsRule}
 use Rattle.chain_args.specs.declared.words_fault.WordsFault.TheVariants.{At}
 use Rattle.packet_forms.specs.Stripped.{stripped}
@@ -25,14 +26,16 @@ use Rattle.ts_outside.specs.Told.{grown}
 use Rattle.ts_outside.specs.Desk.{DeskView, file_of}
 use Rattle.ts_outside.specs.Entries.{outputs_with}
 use Rattle.ts_outside.specs.Faultless.{NothingFails}
-use Rattle.tsp_top.specs.CallOutcome.{CallOutcome, no_input, no_output, ran, unreported, out_of_memory, status_of, status_when_late, FaultRose, StatusTellsCause}
+use Rattle.tsp_top.specs.CallOutcome.{CallOutcome, no_input, no_output, ran, unreported, out_of_memory, done_status, in_place_of_done, is_plain_end, run_status, status_in_time, status_of, FaultRose, StatusTellsCause}
 use Rattle.tsp_top.specs.CanEnd.{CanEnd, CanEndBy}
 use Rattle.tsp_top.specs.MemoryFirst.{IsPreallocated, ArePreallocated, NoStageWants, TakesLater}
 use Rattle.tsp_top.specs.PlannedChain.{chain_of, input_of, named_rules, output_name, stuffing_of, users_from, users_of}
 use Rattle.tsp_top.specs.PlannedTables.{AreTables, tables_asked}
+use Rattle.tsp_top.specs.Faults.{has_faults}
+use Rattle.tsp_top.specs.Printed.{reported_as}
 use Rattle.tsp_top.specs.StreamTheorem.{EndsRight, IsWrittenTo, Writes, Reports}
 use Rattle.tsp_top.specs.TspCall.{CallsPlan, CallsTsp}
-use Rattle.tsp_top.specs.Headline.{TellsInput, TellsTables, IsPureOrWants, IsPureOrEnds, EndsWell, SameButSizes}
+use Rattle.tsp_top.specs.Headline.{TellsInput, TellsTables, IsPureOrWants, IsPureOrEnds, IsDoneOrWants, EndsWell, SameButSizes, pure_status}
 use Rattle.tsp_top.specs.WantsMemory.{WantsMemoryFirst}
 use Rattle.tsp_top.specs.declared.status.Status.{Status}
 use Rattle.tsp_top.specs.declared.status.Status.TheVariants as status
@@ -75,7 +78,7 @@ module _ (plan : Plan) (tables : List (List (List ℕ))) (files : List (List ℕ
   abbrev chain : Chain
   chain = chain_of plan tables files
 
-  by-end : (end : CallOutcome) → StatusTellsCause (output_name plan.output) old new answer end → EndsRight chain end → Writes plan chain old new end → Reports chain old new end → IsPureOrWants plan tables files old new answer
+  by-end : (end : CallOutcome) → StatusTellsCause plan chain old new answer end → EndsRight chain end → Writes plan chain old new end → Reports plan chain old new end → IsPureOrWants plan tables files old new answer
   by-end no_input tells right writes reports = absurd (quiet-no_cause old.read_faults new.read_faults fine.reads tells.1)
   by-end no_output tells right writes reports = absurd (quiet-no_cause old.write_faults new.write_faults fine.writes tells.1)
   by-end (ran cut why true) tells right writes reports =
@@ -89,12 +92,14 @@ module _ (plan : Plan) (tables : List (List (List ℕ))) (files : List (List ℕ
         | inl pure ↦ inr (record {
           written = writes.1 ∙ ap (λ l. outputs_with (output_name plan.output) old.outputs l) (whole-bytes chain cut why writes.0 faults.0 writes.2 ∙ ap (written_to chain) pure.0);
           reported = elim reports [
-            | inl whole ↦ whole.0 ∙ ap (λ l. grown old.reported l) (ap (λ m. reported_at chain m why) pure.0 ∙ ap (reported_at chain (chain_cut chain)) pure.1)
+            | inl whole ↦ whole.0 ∙ ap (λ l. grown old.reported l) (ap (λ m. reported_as plan.general chain m why) pure.0 ∙ ap (reported_as plan.general chain (chain_cut chain)) pure.1)
             | inr part ↦ absurd (quiet-no_cause old.report_faults new.report_faults fine.reports part.3)
           ];
-          answered = tells.0 ∙ ap status_of pure.1;
+          answered = tells.0
+              ∙ (ap (λ m. status_in_time plan.general (has_faults chain m) why) pure.0
+              ∙ ap (status_in_time plan.general (has_faults chain (chain_cut chain))) pure.1);
         })
-        | inr fault ↦ inl (tells.0 ∙ only-memory why fault.fault faults.0 faults.1)
+        | inr fault ↦ inl (tells.0 ∙ ap (in_place_of_done (done_status plan.general (has_faults chain cut) why)) (only-memory why fault.fault faults.0 faults.1))
       ]
   by-end (unreported cut why) tells right writes reports = inl tells.0
   by-end out_of_memory tells right writes reports = inl tells
@@ -172,8 +177,8 @@ headline words plan tables files old new answer is tells tells_tables are calls 
         | inl some ↦ (let same : chain_of plan some.tables some.files ≡ chain_of plan tables files =
             same-chain plan old tables some.tables files some.files tells tells_tables are some.tables_are some.files_are in inr (record {
               written = some.pure.written ∙ ap (λ (c : Chain). outputs_with (output_name plan.output) old.outputs (pure_run c).written) same;
-              reported = some.pure.reported ∙ ap (λ (c : Chain). grown old.reported (pure_run c).reported) same;
-              answered = some.pure.answered ∙ ap (λ (c : Chain). status_of (pure_run c).cause) same;
+              reported = some.pure.reported ∙ ap (λ (c : Chain). grown old.reported (reported_as plan.general c (chain_cut c) (chain_cause c))) same;
+              answered = some.pure.answered ∙ ap (λ (c : Chain). pure_status plan.general c) same;
             }))
         | inr ends ↦ absurd (no-end old files plan.plugins tables new answer tells_tables are (quiet-no_cause old.read_faults new.read_faults fine.reads) ends)
       ]
@@ -195,11 +200,12 @@ well-done (NoMemory k) well = absurd well
 pub completeness : (words : List (List ℕ)) (plan : Plan) (tables : List (List (List ℕ))) (files : List (List ℕ × List ℕ)) (old new : DeskView) (answer : Status)
     → plan_of words ≡ Some plan → TellsInput plan.input old files → TellsTables plan.plugins old files → AreTables old plan.plugins tables
     → CallsTsp words old new answer → NothingFails old new
-    → EndsWell (pure_run (chain_of plan tables files)).cause → (answer ≡ status.Done) ⊎ (answer ≡ status.NoMemory)
+    → EndsWell (pure_run (chain_of plan tables files)).cause → IsDoneOrWants plan tables files answer
 completeness words plan tables files old new answer is tells tells_tables are calls fine well =
     elim (headline words plan tables files old new answer is tells tells_tables are calls fine) [
       | inl wants ↦ inr wants
-      | inr pure ↦ inl (pure.answered ∙ well-done (pure_run (chain_of plan tables files)).cause well)
+      | inr pure ↦ inl (pure.answered
+          ∙ ap (in_place_of_done (done_status plan.general (has_faults (chain_of plan tables files) (chain_cut (chain_of plan tables files))) (chain_cause (chain_of plan tables files)))) (well-done (pure_run (chain_of plan tables files)).cause well))
     ]
 
 -- plans that differ in their sizes alone have one chain
@@ -224,38 +230,47 @@ no-want plan why preallocated can zero is = subst (λ (w : Cause). CanEndBy plan
 no-want plan why preallocated can (suc j) is =
     none-later plan.plugins j (all_by_recursion IsPreallocated plan.plugins preallocated) (subst (λ (w : Cause). CanEndBy plan w) is can)
 
+-- what a run is that is done is not that memory ran out
+no-wish : (ended faulty : Bool) → status.NoMemory ≡ (if ended then status.InputEnded else (if faulty then status.FaultFound else status.Done)) → ⊥
+no-wish true faulty is = cc
+no-wish false true is = cc
+no-wish false false is = cc
+
+not-wanting : (general : GeneralConf) (faulty : Bool) (why : Cause) → status.NoMemory ≡ done_status general faulty why → ⊥
+not-wanting general faulty why is = no-wish (general.endless && is_plain_end why) (general.fail_on_faults && faulty) is
+
 -- what is left where memory ran out, of plugins that take their room first
 module _ (plan : Plan) (tables : List (List (List ℕ))) (files : List (List ℕ × List ℕ)) (old new : DeskView) (tables_are : AreTables old plan.plugins tables) (files_are : IfSome old.files (λ told. files ≡ told))
     (preallocated : ArePreallocated plan.plugins) where
   abbrev behind : DeskView
   behind = tables_asked old plan
 
-  not-done : (why : Cause) (late : Bool) → NoStageWants why → status.NoMemory ≡ (if late then status_when_late (status_of why) else status_of why) → ⊥
-  not-done (Input (End left)) true none is = cc
-  not-done (Input (End left)) false none is = cc
-  not-done (Input (Sync packet)) true none is = cc
-  not-done (Input (Sync packet)) false none is = cc
-  not-done (Input ReadFault) true none is = cc
-  not-done (Input ReadFault) false none is = cc
-  not-done (Input TooLong) true none is = cc
-  not-done (Input TooLong) false none is = cc
-  not-done Joint true none is = cc
-  not-done Joint false none is = cc
-  not-done (Until j) true none is = cc
-  not-done (Until j) false none is = cc
-  not-done (Stop j) true none is = cc
-  not-done (Stop j) false none is = cc
-  not-done (Refuse j reason) true none is = cc
-  not-done (Refuse j reason) false none is = cc
-  not-done WriteFault true none is = cc
-  not-done WriteFault false none is = cc
-  not-done (NoMemory k) late none is = none k refl
+  not-done : (faulty : Bool) (why : Cause) (late : Bool) → NoStageWants why → status.NoMemory ≡ run_status plan.general faulty why late → ⊥
+  not-done faulty (Input (End left)) true none is = cc
+  not-done faulty (Input (End left)) false none is = not-wanting plan.general faulty (Input (End left)) is
+  not-done faulty (Input (Sync packet)) true none is = cc
+  not-done faulty (Input (Sync packet)) false none is = cc
+  not-done faulty (Input ReadFault) true none is = cc
+  not-done faulty (Input ReadFault) false none is = cc
+  not-done faulty (Input TooLong) true none is = cc
+  not-done faulty (Input TooLong) false none is = cc
+  not-done faulty Joint true none is = cc
+  not-done faulty Joint false none is = not-wanting plan.general faulty Joint is
+  not-done faulty (Until j) true none is = cc
+  not-done faulty (Until j) false none is = not-wanting plan.general faulty (Until j) is
+  not-done faulty (Stop j) true none is = cc
+  not-done faulty (Stop j) false none is = not-wanting plan.general faulty (Stop j) is
+  not-done faulty (Refuse j reason) true none is = cc
+  not-done faulty (Refuse j reason) false none is = cc
+  not-done faulty WriteFault true none is = cc
+  not-done faulty WriteFault false none is = cc
+  not-done faulty (NoMemory k) late none is = none k refl
 
-  wants-first : (end : CallOutcome) → StatusTellsCause (output_name plan.output) behind new status.NoMemory end → CanEnd plan end → EndsRight (chain_of plan tables files) end
-      → Writes plan (chain_of plan tables files) behind new end → Reports (chain_of plan tables files) behind new end → WantsMemoryFirst plan old new
+  wants-first : (end : CallOutcome) → StatusTellsCause plan (chain_of plan tables files) behind new status.NoMemory end → CanEnd plan end → EndsRight (chain_of plan tables files) end
+      → Writes plan (chain_of plan tables files) behind new end → Reports plan (chain_of plan tables files) behind new end → WantsMemoryFirst plan old new
   wants-first no_input tells first right writes reports = absurd (let e = tells.0 in cc)
   wants-first no_output tells first right writes reports = absurd (let e = tells.0 in cc)
-  wants-first (ran cut why late) tells first right writes reports = absurd (not-done why late (no-want plan why preallocated first) tells.0)
+  wants-first (ran cut why late) tells first right writes reports = absurd (not-done (has_faults (chain_of plan tables files) cut) why late (no-want plan why preallocated first) tells.0)
   wants-first (unreported cut why) tells first right writes reports =
       (reports, inr (inr (record { tables = tables; tables_are = tables_are; files = files; files_are = files_are; cut = cut; why = why; no_want = no-want plan why preallocated first; pure_or_fault = right; written = writes })))
   wants-first out_of_memory tells first right writes reports =
@@ -272,7 +287,7 @@ planned-first : (plan : Plan) (old new : DeskView) (answer : Status) → ArePrea
 planned-first plan old new answer preallocated (inl runs) want =
     let t = runs.theorem in
     wants-first plan runs.tables t.files old new runs.tables_are t.files_are preallocated t.end
-    (subst (λ (s : Status). StatusTellsCause (output_name plan.output) (tables_asked old plan) new s t.end) want t.status_tells_cause) t.can_end t.pure_or_fault t.written t.reported
+    (subst (λ (s : Status). StatusTellsCause plan (chain_of plan runs.tables t.files) (tables_asked old plan) new s t.end) want t.status_tells_cause) t.can_end t.pure_or_fault t.written t.reported
 planned-first plan old new answer preallocated (inr (inl ends)) want =
     absurd (ends-not-wanting (length ends.before + 1) ends.ends.2.end (sym want ∙ ends.ends.2.status_is))
 planned-first plan old new answer preallocated (inr (inr wants)) want = (

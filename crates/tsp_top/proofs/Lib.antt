@@ -1,3 +1,4 @@
+pub mod JudgingLemmas
 pub mod ReportLemmas
 pub mod DeskLemmas
 pub mod PlanningLemmas

@@ -1,5 +1,5 @@
 -- The stream theorem of a call whose two ends were opened.
-use Rattle.std.proofs.Common.{◌≡◌, ◌≢◌, ◌⊎◌, ℕ, zero, suc, ◌-◌, ◌<◌, List, [], ◌∷◌, ◌++◌, length, map, take, Bool, true, false, ◌||◌, if◌then◌else◌, Option, None, Some, IfSome, refl, ap, sym, ◌∙◌, subst, inl, inr, arith}
+use Rattle.std.proofs.Common.{◌≡◌, ◌≢◌, ◌⊎◌, ℕ, zero, suc, ◌-◌, ◌<◌, List, [], ◌∷◌, ◌++◌, length, map, take, Bool, true, false, ◌||◌, Option, None, Some, IfSome, refl, ap, sym, ◌∙◌, subst, inl, inr, arith}
 use Rattle.std.specs.Bool.{OnTrue}
 use Rattle.std.specs.Prelude.{slice_index_or}
 use Rattle.std.proofs.lemmas.List.{take_all, length-map}
@@ -13,8 +13,8 @@ use Rattle.chain_model.specs.Apply.{StageList}
 use Rattle.chain_model.specs.StageLists.{end_list}
 use Rattle.chain_model.specs.Written.{written}
 use Rattle.chain_model.specs.Cut.{cut_of, IsValidFault, IsPureClose}
-use Rattle.chain_model.specs.PureRun.{chain_rules, reported_at}
-use Rattle.chain_model.specs.Reports.{rules_of, reports}
+use Rattle.chain_model.specs.PureRun.{chain_rules}
+use Rattle.chain_model.specs.Reports.{rules_of}
 use Rattle.chain_model.specs.Stuffed.{stuffed}
 use Rattle.chain_model.specs.Stuffed as model
 use Rattle.chain_core.specs.Stages.{stages_of}
@@ -40,12 +40,14 @@ use Rattle.ts_outside.specs.Saying.{Says}
 use Rattle.ts_outside.specs.Entries.{asked_for, outputs_with}
 use Rattle.chain_run.specs.RunOf.{LeftInput, LeftOutput, RunOf}
 use Rattle.plugin_set.specs.Plugins.{preallocated_of}
-use Rattle.tsp_top.specs.CallOutcome.{ran, unreported, out_of_memory, status_of, status_when_late, FaultRose, LateRose}
+use Rattle.tsp_top.specs.CallOutcome.{ran, unreported, out_of_memory, run_status, status_of, FaultRose, LateRose}
 use Rattle.tsp_top.specs.CanEnd.{CanEndBy}
 use Rattle.tsp_top.specs.MemoryFirst.{TakesLater}
 use Rattle.tsp_top.specs.Openings.{asked_input, asked_output, input_closed_as, output_closed_as, OpensInput, OpensOutput, IsThrough, WasOpened}
 use Rattle.tsp_top.specs.PlannedChain.{chain_of, input_of, stuffing_of, users_of, named_rules, input_name, output_name}
 use Rattle.tsp_top.specs.Ran.{IsReady, RanEnds, RanOpened, closed_desk}
+use Rattle.tsp_top.specs.Faults.{faults_from, has_faults}
+use Rattle.tsp_top.specs.Printed.{reported_as, reports_asked}
 use Rattle.tsp_top.specs.Readings.{ReadsTo}
 use Rattle.tsp_top.specs.Reported.{ReportsRun}
 use Rattle.tsp_top.specs.Sizes.{default_buffer}
@@ -91,8 +93,8 @@ record RanFacts (plan : Plan) (tables : List (List (List ℕ))) (files : List (L
 -- a run that was reported
 reported-theorem : (plan : Plan) (tables : List (List (List ℕ))) (files : List (List ℕ × List ℕ)) (old made new : DeskView) (cut : ℕ) (why : Cause) (late said : Bool) (st : Status)
     → RanFacts plan tables files old new cut why → LateRose (output_name plan.output) old new why late
-    → st ≡ (if late then status_when_late (status_of why) else status_of why)
-    → made.reported ≡ old.reported → made.report_faults ≡ old.report_faults → Says made new (reported_at (chain_of plan tables files) cut why) said → StreamTheorem plan tables old new st
+    → st ≡ run_status plan.general (has_faults (chain_of plan tables files) cut) why late
+    → made.reported ≡ old.reported → made.report_faults ≡ old.report_faults → Says made new (reported_as plan.general (chain_of plan tables files) cut why) said → StreamTheorem plan tables old new st
 reported-theorem plan tables files old made new cut why late said st facts rose told reported report_faults says = record {
   end = ran cut why late;
   files = files;
@@ -102,7 +104,7 @@ reported-theorem plan tables files old made new cut why late said st facts rose 
   pure_or_fault = facts.closes;
   reads = facts.reads;
   written = facts.written;
-  reported = reports-text old made new (reported_at (chain_of plan tables files) cut why) said reported report_faults says;
+  reported = reports-text old made new (reported_as plan.general (chain_of plan tables files) cut why) said reported report_faults says;
   opened = facts.asked;
   files_stay = facts.files_stay;
 }
@@ -342,19 +344,25 @@ module _ {S K P : Type 0} (see : Seeing S K P) (inner : S → SourceView) (plan 
     }
 
     -- the text of the run's report is that of the plan's chain
-    report-same : reports (named_rules plan.plugins tables) run.list closed.cut closed.cause ≡ reported_at (chain_of plan tables chosen.files) closed.cut closed.cause
-    report-same = ap (λ (l : StageList). reports (named_rules plan.plugins tables) l closed.cut closed.cause) chosen.list_is
+    report-same : reports_asked plan.general (named_rules plan.plugins tables) run.list closed.cut closed.cause ≡ reported_as plan.general (chain_of plan tables chosen.files) closed.cut closed.cause
+    report-same = ap (λ (l : StageList). reports_asked plan.general (named_rules plan.plugins tables) l closed.cut closed.cause) chosen.list_is
+
+    -- and so are its faults
+    faults-same : faults_from (rules_of (named_rules plan.plugins tables)) run.list closed.cut 0 (named_rules plan.plugins tables) ≡ has_faults (chain_of plan tables chosen.files) closed.cut
+    faults-same = ap (λ (l : StageList). faults_from (rules_of (named_rules plan.plugins tables)) l closed.cut 0 (named_rules plan.plugins tables)) chosen.list_is
 
     -- a run that was closed, and then reported, or not where there was no memory for that
     ran-closed : (st : Status) → OnTrue failed (WasOpened made_to)
-        → ReportsRun (reports (named_rules plan.plugins tables) run.list closed.cut closed.cause) closed.cause failed d3 new st → StreamTheorem plan tables old new st
+        → ReportsRun plan.general (reports_asked plan.general (named_rules plan.plugins tables) run.list closed.cut closed.cause)
+        (faults_from (rules_of (named_rules plan.plugins tables)) run.list closed.cut 0 (named_rules plan.plugins tables)) closed.cause failed d3 new st → StreamTheorem plan tables old new st
     ran-closed st closing (inl report) =
-        let text : List ℕ = reported_at (chain_of plan tables chosen.files) closed.cut closed.cause in
+        let text : List ℕ = reported_as plan.general (chain_of plan tables chosen.files) closed.cut closed.cause in
         let T : List ℕ → Type 0 = λ t. Says d3 new t report.0 in
         let says : Says d3 new text report.0 = subst T report-same report.1 in
         let facts = ran-facts (leaves-says d3 new text report.0 says) in
         let late = lates-rose see.source inner see.sink plan old made new from made_from to made_to failed report.0 text cells closed.cut closed.cause opened closing run.output says in
-        reported-theorem plan tables chosen.files old d3 new closed.cut closed.cause (failed || report.0) report.0 st facts late report.2 steps.reported steps.report_faults says
+        reported-theorem plan tables chosen.files old d3 new closed.cut closed.cause (failed || report.0) report.0 st facts late
+        (report.2 ∙ ap (λ (faulty : Bool). run_status plan.general faulty closed.cause (failed || report.0)) faults-same) steps.reported steps.report_faults says
     ran-closed st closing (inr none) =
         unreported-theorem plan tables chosen.files old new closed.cut closed.cause st (ran-facts (leaves-all d3 new none.1)) none.0
         (ap (λ (v : DeskView). v.reported) none.1 ∙ steps.reported) (ap (λ (v : DeskView). v.report_faults) none.1 ∙ steps.report_faults)

@@ -1,6 +1,17 @@
 -- Worked rows, computed on the definitions.
-use Rattle.std.proofs.Common.{◌≡◌, Some, None, refl}
+use Rattle.std.proofs.Common.{◌≡◌, ◌++◌, ◌∷◌, [], ℕ, List, Bool, true, false, Some, None, codes, refl}
+use Rattle.std.specs.Fmt.{digits}
+use Rattle.chain_model.specs.Apply.{StageList}
+use Rattle.chain_model.specs.Reports.{NamedRule, reports}
+use Rattle.chain_model.specs.declared.input_end.InputEnd.TheVariants as input
+use Rattle.chain_model.specs.declared.cause.Cause.{Cause}
+use Rattle.chain_model.specs.declared.cause.Cause.TheVariants as cause
+use Rattle.chain_args.specs.declared.general_conf.GeneralConf.{GeneralConf}
+use Rattle.chain_args.specs.declared.stage_threads.StageThreads.TheVariants.{Auto}
+use Rattle.tsp_top.specs.CallOutcome.{run_status, status_of}
+use Rattle.tsp_top.specs.Printed.{printed_line, reports_asked}
 use Rattle.tsp_top.specs.Sizes.{lesser_batch}
+use Rattle.tsp_top.specs.declared.status.Status.TheVariants.{Done, WriteFault, Sync, InputEnded, FaultFound}
 
 -- both are given; one of them is; neither is
 both-given : lesser_batch (Some 20) (Some 7) ≡ Some 7
@@ -14,3 +25,66 @@ small-one-given = refl
 
 none-given : lesser_batch None None ≡ None
 none-given = refl
+
+-- the general options, of which these three are given or not
+abbrev asked : Bool → Bool → Bool → GeneralConf
+asked bare endless fail_on_faults = record {
+  add_start_stuffing = 0;
+  add_stop_stuffing = 0;
+  add_input_stuffing = (0, 1);
+  buffer_packets = None;
+  max_flushed_packets = None;
+  max_input_packets = None;
+  ignore_joint_termination = false;
+  bare = bare;
+  endless = endless;
+  fail_on_faults = fail_on_faults;
+  threads = Auto;
+}
+
+-- `--endless`: the input ended, with bytes left out; until ended the run; sync was lost; the report failed
+input-ended : run_status (asked false true false) false (cause.Input (input.End 17)) false ≡ InputEnded
+input-ended = refl
+
+until-ended : run_status (asked false true false) false (cause.Until 2) false ≡ Done
+until-ended = refl
+
+lost-sync : run_status (asked false true true) true (cause.Input (input.Sync 2)) false ≡ Sync 2
+lost-sync = refl
+
+unreported-end : run_status (asked false true true) true (cause.Input (input.End 0)) true ≡ WriteFault
+unreported-end = refl
+
+-- `--fail-on-faults`: a plugin has a fault, and none has; with `--endless` too, the input's end is told
+fault-found : run_status (asked false false true) true (cause.Until 2) false ≡ FaultFound
+fault-found = refl
+
+no-fault-found : run_status (asked false false true) false (cause.Until 2) false ≡ Done
+no-fault-found = refl
+
+both-asked : run_status (asked false true true) true (cause.Input (input.End 0)) false ≡ InputEnded
+both-asked = refl
+
+-- without these options the status is that of the cause, and the report has numbers, names and the line for the end
+unasked : (faulty : Bool) (why : Cause) → run_status (asked false false false) faulty why false ≡ status_of why
+unasked faulty (cause.Input (input.End left)) = refl
+unasked faulty (cause.Input (input.Sync packet)) = refl
+unasked faulty (cause.Input input.ReadFault) = refl
+unasked faulty (cause.Input input.TooLong) = refl
+unasked faulty cause.Joint = refl
+unasked faulty (cause.Until j) = refl
+unasked faulty (cause.Stop j) = refl
+unasked faulty (cause.Refuse j reason) = refl
+unasked faulty cause.WriteFault = refl
+unasked faulty (cause.NoMemory k) = refl
+
+whole-report : (plugins : List NamedRule) (list : StageList) (cut : ℕ) (why : Cause) → reports_asked (asked false true true) plugins list cut why ≡ reports plugins list cut why
+whole-report plugins list cut why = refl
+
+-- a line of plugin 3, bare and not
+bare-line : printed_line true 3 (codes "count") (codes "total 5") ≡ codes "total 5" ++ 10 ∷ []
+bare-line = refl
+
+whole-line : printed_line false 3 (codes "count") (codes "total 5") ≡ codes "[3] count: total 5" ++ 10 ∷ []
+unfolding digits
+whole-line = refl

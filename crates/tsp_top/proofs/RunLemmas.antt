@@ -17,6 +17,7 @@ use Rattle.chain_run.specs.RunOf.{RunOf}
 use Rattle.chain_run.proofs.RunUses.{met-to}
 use Rattle.std.proofs.lemmas.List.{length-map}
 use Rattle.plugin_set.specs.declared.plugin_item.PluginItem.{PluginItem}
+use Rattle.chain_args.specs.declared.general_conf.GeneralConf.{GeneralConf}
 use Rattle.chain_args.specs.declared.plan_type.Plan.{Plan}
 use Rattle.chain_model.specs.Reports.{rules_of}
 use Rattle.tsp_top.specs.PlannedChain.{later_tables, named_rules}
@@ -37,13 +38,14 @@ pub on-err : {A B : Type 0} (r : Result A B) (x : B) (P : Type 0) → r ≡ Err 
 on-err {A} {B} r x P e h = let M : Result A B → Type 0 = λ s. OnErr s P in subst M e h
 
 -- the same report, in other words
-pub reports-run-same : (text said : List ℕ) (why : Cause) (f failed : Bool) (a old new : DeskView) (status : Status)
-    → text ≡ said → f ≡ failed → a ≡ old → ReportsRun text why f a new status → ReportsRun said why failed old new status
-reports-run-same text said why f failed a old new status e1 e2 e3 h =
-    let A : List ℕ → Type 0 = λ t. ReportsRun t why f a new status in
-    let B : Bool → Type 0 = λ b. ReportsRun said why b a new status in
-    let C : DeskView → Type 0 = λ d. ReportsRun said why failed d new status in
-    subst C e3 (subst B e2 (subst A e1 h))
+pub reports-run-same : (general : GeneralConf) (text said : List ℕ) (faulty known : Bool) (why : Cause) (f failed : Bool) (a old new : DeskView) (status : Status)
+    → text ≡ said → faulty ≡ known → f ≡ failed → a ≡ old → ReportsRun general text faulty why f a new status → ReportsRun general said known why failed old new status
+reports-run-same general text said faulty known why f failed a old new status e1 e2 e3 e4 h =
+    let A : List ℕ → Type 0 = λ t. ReportsRun general t faulty why f a new status in
+    let B : Bool → Type 0 = λ b. ReportsRun general said b why f a new status in
+    let C : Bool → Type 0 = λ b. ReportsRun general said known why b a new status in
+    let D : DeskView → Type 0 = λ d. ReportsRun general said known why failed d new status in
+    subst D e4 (subst C e3 (subst B e2 (subst A e1 h)))
 
 -- the plugins of a closed run met the cells before its cut, as plugins of their own rules
 pub run-met : {S K P : Type 0} (see : Seeing S K P) (from made_from : InputPart S) (stuffing : Stuffing) (plugins made : List (Heard P))

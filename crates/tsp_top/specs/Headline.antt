@@ -3,7 +3,7 @@ use Rattle.std.specs.Prelude.{◌≡◌, ◌⊎◌, ℕ, List, [], ◌∷◌, Op
 use Rattle.chain_model.specs.declared.input_end.InputEnd.TheVariants.{End}
 use Rattle.chain_model.specs.declared.cause.Cause.{Cause}
 use Rattle.chain_model.specs.declared.cause.Cause.TheVariants.{Input, Joint, Until, Stop}
-use Rattle.chain_model.specs.PureRun.{pure_run}
+use Rattle.chain_model.specs.PureRun.{Chain, chain_cause, chain_cut, pure_run}
 use Rattle.plugin_set.specs.declared.plugin_item.PluginItem.{PluginItem}
 use Rattle.plugin_set.specs.Plugins.{table_file_of}
 use Rattle.chain_args.specs.declared.input_conf.InputConf.{InputConf}
@@ -12,9 +12,12 @@ use Rattle.chain_args.specs.declared.plan_type.Plan.{Plan}
 use Rattle.ts_outside.specs.Told.{grown}
 use Rattle.ts_outside.specs.Desk.{DeskView}
 use Rattle.ts_outside.specs.Entries.{outputs_with}
-use Rattle.tsp_top.specs.CallOutcome.{status_of}
+use Rattle.chain_args.specs.declared.general_conf.GeneralConf.{GeneralConf}
+use Rattle.tsp_top.specs.CallOutcome.{done_status, status_in_time}
 use Rattle.tsp_top.specs.PlannedChain.{chain_of, output_name}
+use Rattle.tsp_top.specs.Faults.{has_faults}
 use Rattle.tsp_top.specs.PlannedTables.{AreTables}
+use Rattle.tsp_top.specs.Printed.{reported_as}
 use Rattle.tsp_top.specs.TableEnds.{EndsAtTables}
 use Rattle.tsp_top.specs.declared.status.Status.{Status}
 use Rattle.tsp_top.specs.declared.status.Status.TheVariants.{NoMemory}
@@ -34,13 +37,18 @@ abbrev pub TellsTables : List PluginItem → DeskView → List (List ℕ × List
 TellsTables [] desk files = Unit {0}
 TellsTables (item ∷ items) desk files = TellsTable (table_file_of item.conf) desk files × TellsTables items desk files
 
+-- the status of the run without faults outside
+abbrev pub pure_status : GeneralConf → Chain → Status
+pure_status general chain = status_in_time general (has_faults chain (chain_cut chain)) (chain_cause chain)
+
 -- the call wrote, reported and returned what applying the plugins one after another to the whole list of packets gives
 pub record IsPureCall (plan : Plan) (tables : List (List (List ℕ))) (files : List (List ℕ × List ℕ))
     (old new : DeskView) (status : Status) : Type 0 where
   pub written : new.outputs
       ≡ outputs_with (output_name plan.output) old.outputs (pure_run (chain_of plan tables files)).written
-  pub reported : new.reported ≡ grown old.reported (pure_run (chain_of plan tables files)).reported
-  pub answered : status ≡ status_of (pure_run (chain_of plan tables files)).cause
+  pub reported : new.reported
+      ≡ grown old.reported (reported_as plan.general (chain_of plan tables files) (chain_cut (chain_of plan tables files)) (chain_cause (chain_of plan tables files)))
+  pub answered : status ≡ pure_status plan.general (chain_of plan tables files)
 
 -- the call did so, or memory ran out
 abbrev pub IsPureOrWants : Plan → List (List (List ℕ)) → List (List ℕ × List ℕ)
@@ -69,7 +77,12 @@ EndsWell (Until j) = Unit {0}
 EndsWell (Stop j) = Unit {0}
 EndsWell _ = ⊥
 
--- two plans differ in the three sizes and in their threads at most
+-- the status of a run that is done, or memory ran out
+abbrev pub IsDoneOrWants : Plan → List (List (List ℕ)) → List (List ℕ × List ℕ) → Status → Type 0
+IsDoneOrWants plan tables files status =
+    (status ≡ done_status plan.general (has_faults (chain_of plan tables files) (chain_cut (chain_of plan tables files))) (chain_cause (chain_of plan tables files))) ⊎ (status ≡ NoMemory)
+
+-- two plans differ in the three sizes, in their threads and in what is to become of their ends at most
 pub record SameButSizes (one other : Plan) : Type 0 where
   pub input : other.input ≡ one.input
   pub plugins : other.plugins ≡ one.plugins

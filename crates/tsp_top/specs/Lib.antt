@@ -3,10 +3,12 @@ pub mod ByPlugin
 pub mod CallOutcome
 pub mod CanEnd
 pub mod ExitNumber
+pub mod Faults
 pub mod MemoryFirst
 pub mod Openings
 pub mod PlannedChain
 pub mod PlannedTables
+pub mod Printed
 pub mod Ran
 pub mod Readings
 pub mod Refusals

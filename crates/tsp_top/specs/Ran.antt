@@ -10,7 +10,7 @@ use Rattle.chain_args.specs.declared.plan_type.Plan.{Plan}
 use Rattle.chain_core.specs.declared.closed.Closed.{Closed}
 use Rattle.chain_core.specs.declared.core_plan.CorePlan.{CorePlan}
 use Rattle.chain_model.specs.PluginRule.{PluginRule}
-use Rattle.chain_model.specs.Reports.{reports, rules_of}
+use Rattle.chain_model.specs.Reports.{rules_of}
 use Rattle.plugin_trait.specs.declared.heard.Heard.{Heard}
 use Rattle.plugin_trait.specs.HeardStands.{HeardStands}
 use Rattle.stage_run.specs.declared.input_part.InputPart.{InputPart}
@@ -27,6 +27,8 @@ use Rattle.tsp_top.specs.PlannedChain.{stuffing_of, named_rules}
 use Rattle.tsp_top.specs.PlannedTables.{AreTables, tables_asked}
 use Rattle.tsp_top.specs.PlannedCore.{IsPlannedCore}
 use Rattle.tsp_top.specs.Openings.{asked_input, asked_output, OpensInput, OpensOutput, IsThrough, input_closed_as, output_closed_as, WasOpened}
+use Rattle.tsp_top.specs.Faults.{faults_from}
+use Rattle.tsp_top.specs.Printed.{reports_asked}
 use Rattle.tsp_top.specs.Reported.{ReportsRun}
 use Rattle.tsp_top.specs.declared.status.Status.{Status}
 use Rattle.tsp_top.specs.declared.status.Status.TheVariants.{NoMemory}
@@ -82,7 +84,8 @@ pub record RanClosed {S K P : Type 0} (see : Seeing S K P) (inner : S → Source
     (failed : Bool) (status : Status) (closed : Closed) : Type 0 where
   pub made : List (Heard P)
   pub run : RunOf see from made_from stuffing plugins made to made_to numbers closed
-  pub reported : ReportsRun (reports (named_rules plan.plugins tables) run.list closed.cut closed.cause)
+  pub reported : ReportsRun plan.general (reports_asked plan.general (named_rules plan.plugins tables) run.list closed.cut closed.cause)
+      (faults_from (rules_of (named_rules plan.plugins tables)) run.list closed.cut 0 (named_rules plan.plugins tables))
       closed.cause failed (closed_desk inner see.sink old made_from made_to failed) new status
 
 -- there was no memory for the run: the ends were closed as they were opened

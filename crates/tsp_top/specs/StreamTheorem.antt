@@ -3,7 +3,7 @@ use Rattle.std.specs.Prelude.{◌≡◌, ◌⊎◌, ℕ, List, [], ◌∷◌, �
 use Rattle.chain_model.specs.Prefix.{IsPrefix}
 use Rattle.chain_model.specs.StageLists.{end_list}
 use Rattle.chain_model.specs.Cut.{IsValidFault, IsPureClose}
-use Rattle.chain_model.specs.PureRun.{Chain, chain_rules, chain_cut, written_to, reported_at}
+use Rattle.chain_model.specs.PureRun.{Chain, chain_rules, chain_cut, written_to}
 use Rattle.chain_model.specs.declared.cause.Cause.{Cause}
 use Rattle.chain_model.specs.declared.cause.Cause.TheVariants.{WriteFault}
 use Rattle.chain_args.specs.declared.plan_type.Plan.{Plan}
@@ -17,6 +17,7 @@ use Rattle.chain_model.specs.Written.{IsPartOfFirst}
 use Rattle.tsp_top.specs.CallOutcome.{CallOutcome, no_input, no_output, ran, unreported, out_of_memory, StatusTellsCause}
 use Rattle.tsp_top.specs.CanEnd.{CanEnd}
 use Rattle.tsp_top.specs.PlannedChain.{chain_of, input_name, output_name}
+use Rattle.tsp_top.specs.Printed.{reported_as}
 use Rattle.tsp_top.specs.Readings.{ReadsNothing, ReadsTo}
 use Rattle.tsp_top.specs.declared.status.Status.{Status}
 
@@ -67,12 +68,12 @@ Reads plan files old new (unreported cut why) = ReadsTo plan.general plan.input 
 Reads plan files old new out_of_memory = ReadsNothing plan.input files old new
 
 -- what is reported
-abbrev pub Reports : Chain → DeskView → DeskView → CallOutcome → Type 0
-Reports chain old new no_input = ReportsText old new (codes "tsp: cannot open input" ++ 10 ∷ [])
-Reports chain old new no_output = ReportsText old new (codes "tsp: cannot open output" ++ 10 ∷ [])
-Reports chain old new (ran cut why late) = ReportsText old new (reported_at chain cut why)
-Reports chain old new (unreported cut why) = ReportsNothing old new
-Reports chain old new out_of_memory = ReportsNothing old new
+abbrev pub Reports : Plan → Chain → DeskView → DeskView → CallOutcome → Type 0
+Reports plan chain old new no_input = ReportsText old new (codes "tsp: cannot open input" ++ 10 ∷ [])
+Reports plan chain old new no_output = ReportsText old new (codes "tsp: cannot open output" ++ 10 ∷ [])
+Reports plan chain old new (ran cut why late) = ReportsText old new (reported_as plan.general chain cut why)
+Reports plan chain old new (unreported cut why) = ReportsNothing old new
+Reports plan chain old new out_of_memory = ReportsNothing old new
 
 -- what is opened: first the input, then the output, and each went well but the last where the call says so
 abbrev pub Opens : Plan → DeskView → DeskView → CallOutcome → Type 0
@@ -97,8 +98,8 @@ pub record StreamTheorem (plan : Plan) (tables : List (List (List ℕ))) (old ne
   -- the files by name: those of the desk where they are known, else some
   pub files : List (List ℕ × List ℕ)
   pub files_are : IfSome old.files (λ told. files ≡ told)
-  -- the status is that of the cause
-  pub status_tells_cause : StatusTellsCause (output_name plan.output) old new status end
+  -- the status is that of the cause, as the general options ask
+  pub status_tells_cause : StatusTellsCause plan (chain_of plan tables files) old new status end
   -- it is an end that this plan can have
   pub can_end : CanEnd plan end
   -- a cause that is no fault is the cause of the run without faults, at its cut
@@ -107,8 +108,8 @@ pub record StreamTheorem (plan : Plan) (tables : List (List (List ℕ))) (old ne
   pub reads : Reads plan files old new end
   -- what is written
   pub written : Writes plan (chain_of plan tables files) old new end
-  -- what is reported
-  pub reported : Reports (chain_of plan tables files) old new end
+  -- what is reported, as the general options ask
+  pub reported : Reports plan (chain_of plan tables files) old new end
   -- what is opened, in which order
   pub opened : Opens plan old new end
   pub files_stay : new.files ≡ old.files

@@ -36,6 +36,10 @@ use ts_outside::{Desk, Gate};
 /// - `WriteFault` where the output was not opened, where a write ended the run, or where the closing of the output or
 ///   a report failed after a run that would be `Done`;
 /// - `Sync`, `Refused` and `TooLong` where that ended the run;
+/// - `InputEnded` where the words ask for an input without an end (`--endless`), and a run that would be `Done` ended by the plain
+///   end of its input;
+/// - `FaultFound` where the words ask for it (`--fail-on-faults`), and in a run that would be `Done` a plugin has a fault before the
+///   cut: one that it reports, or that it found nothing to edit, to insert or to keep;
 /// - `Done` in all other cases.
 ///
 /// Each stage of the chain has a thread of its own where the program may use two processors and the words do not ask for one

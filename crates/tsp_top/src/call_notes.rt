@@ -1,8 +1,10 @@
 //! What is noted of the plugins of a run, where that is asked.
 
+use crate::end_line::end_line_text;
+use chain_core::Closed;
 use plugin_set::{AnyPlugin, ChangedOn, Changes, Idle, SeesTables};
 use plugin_trait::Heard;
-use std::alloc::Global;
+use std::alloc::{AllocError, Global};
 
 /// A plugin that was idle.
 #[derive(Clone, Copy)]
@@ -20,13 +22,14 @@ pub struct NotedChange {
     pub changed: ChangedOn,
 }
 
-/// The plugins of a run that edited, inserted or read nothing, and the tables that changed without a new version. They
-/// explain a run; no clause speaks of them.
+/// The plugins of a run that edited, inserted or read nothing, the tables that changed without a new version, and the end of a
+/// run whose report was bare. They explain a run; no clause speaks of them.
 #[derive(Drop)]
 pub struct PluginNotes {
     asked: bool,
     idle: Vec<IdlePlugin>,
     changes: Vec<NotedChange>,
+    end: Option<Closed>,
     alloc: Global,
 }
 
@@ -37,6 +40,7 @@ impl PluginNotes {
             asked,
             idle: Vec::new(alloc),
             changes: Vec::new(alloc),
+            end: None,
             alloc,
         }
     }
@@ -49,6 +53,21 @@ impl PluginNotes {
     /// The changes before the cut, one for each plugin and PID, by plugins in their order.
     pub fn changes(&self) -> &[NotedChange] {
         self.changes.as_slice()
+    }
+
+    /// The line for the end of a run whose report was bare and went well; `None` of any other call. It is no part of the report.
+    pub fn end_line(&self, alloc: Global) -> Result<Option<String>, AllocError> {
+        match self.end {
+            Some(closed) => Ok(Some(end_line_text(alloc, closed.cause, closed.cut)?)),
+            None => Ok(None),
+        }
+    }
+
+    /// Notes how a run ended, where its report was bare and did not fail.
+    pub(crate) fn note_end(&mut self, bare: bool, failed: bool, closed: Closed) {
+        if bare && !failed {
+            self.end = Some(closed);
+        }
     }
 
     /// Notes which of these plugins were idle, before they report. One for which there is no memory is left out.

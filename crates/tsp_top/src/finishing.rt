@@ -56,10 +56,12 @@ pub(crate) fn finish<P: Plugin + SeesTables + Drop, D: Desk>(
             let status = report_run(
                 alloc,
                 desk,
+                &plan.general,
                 &mut plugins,
                 plan.plugins.as_slice(),
                 closed,
                 closing.is_err(),
+                notes,
             );
             notes.note_changes(&plugins, closed.cut);
             status

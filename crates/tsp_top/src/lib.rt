@@ -10,6 +10,7 @@ mod driver;
 mod end_line;
 mod finishing;
 mod in_threads;
+mod judging;
 mod one_thread;
 mod opened_call;
 mod opening;

@@ -2,10 +2,9 @@
 
 ghost use Rattle.std.specs.Prelude.{◌≡◌, ◌⊎◌, ℕ, List, map, Some};
 ghost use Rattle.std.specs.String.{string_bytes};
-ghost use Rattle.chain_model.specs.PureRun.{pure_run};
 ghost use Rattle.chain_args.specs.PlanOf.{plan_of};
 ghost use Rattle.chain_args.specs.declared.plan_type.Plan.{Plan};
-ghost use Rattle.tsp_top.specs.CallOutcome.{status_of};
+ghost use Rattle.tsp_top.specs.Headline.{pure_status};
 ghost use Rattle.tsp_top.specs.PlannedChain.{chain_of};
 ghost use Rattle.tsp_top.specs.PlannedTables.{AreTables};
 ghost use Rattle.ts_outside.specs.Preallocated.{preallocated_desk};
@@ -20,11 +19,11 @@ use ts_outside::{OpenGate, PreallocatedDesk};
 /// Does what the words ask for at a desk that never fails, in one thread.
 ///
 /// There the status is determined: where the words have a plan, and the files of its tables have these, the status is that of
-/// the run without faults over the files of the desk, unless memory ran out.
+/// the run without faults over the files of the desk, as the general options ask, unless memory ran out.
 pub fn preallocated_call(alloc: Global, words: &[String], desk: &mut PreallocatedDesk) -> Status
     ensures { (plan : Plan) (tables : List (List (List ℕ))) → plan_of (map string_bytes words.now) ≡ Some plan
         → AreTables (preallocated_desk desk.old) plan.plugins tables
-        → (result ≡ NoMemory) ⊎ (result ≡ status_of (pure_run (chain_of plan tables desk.old.files)).cause) }
+        → (result ≡ NoMemory) ⊎ (result ≡ pure_status plan.general (chain_of plan tables desk.old.files)) }
 {
     headline();
     serial_call(alloc, words, desk, &OpenGate)

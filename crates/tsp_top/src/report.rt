@@ -1,43 +1,67 @@
 //! The report of a run that was closed, and its status.
-ghost use Rattle.std.specs.Prelude.{◌≡◌, ◌<◌, ◌^◌, ◌||◌, ℕ, List, length, map, IfOk};
+ghost use Rattle.std.specs.Prelude.{◌≡◌, ◌<◌, ◌^◌, ◌||◌, ℕ, List, [], length, map, IfOk, if◌then◌else◌};
 ghost use Rattle.std.specs.String.{string_bytes};
 ghost use Rattle.chain_model.specs.Apply.{StageList};
-ghost use Rattle.chain_model.specs.Reports.{reports, rules_of};
+ghost use Rattle.chain_model.specs.Reports.{end_line, rules_of};
 ghost use Rattle.plugin_trait.specs.HeardStands.{HeardStands};
 ghost use Rattle.chain_run.specs.Met.{AllMetTo};
 ghost use Rattle.tsp_top.specs.ByPlugin.{by_plugin};
 ghost use Rattle.tsp_top.specs.PlannedChain.{named_rules};
+ghost use Rattle.tsp_top.specs.Faults.{faults_from};
+ghost use Rattle.tsp_top.specs.Printed.{reports_asked};
 ghost use Rattle.tsp_top.specs.Reported.{ReachesCut, ReportsRun};
 
+use crate::call_notes::PluginNotes;
 use crate::end_line::end_line_text;
 use crate::reporting::push_reports;
-use crate::status::{Status, status_if_late, status_of_cause};
+use crate::status::{Status, status_of_run};
+use chain_args::GeneralConf;
 use chain_core::Closed;
 use plugin_set::PluginItem;
 use plugin_trait::{Heard, Plugin};
 use std::alloc::{AllocError, Global};
 use ts_outside::{Desk, say};
 
-/// All that is reported of a run: what the plugins report of the cells before the cut, then the end line.
+/// The last line of a report, or nothing where its lines are bare.
+fn last_text(alloc: Global, bare: bool, closed: Closed) -> Result<String, AllocError>
+    ensures { IfOk result (λ text. string_bytes text ≡ (if bare then [] else end_line closed.cause closed.cut)) }
+{
+    if bare {
+        return Ok(String::new(alloc));
+    }
+    end_line_text(alloc, closed.cause, closed.cut)
+}
+
+/// The text of a report, and whether a plugin has a fault.
+#[derive(Drop)]
+struct Judged {
+    text: String,
+    faulty: bool,
+}
+
+/// All that is reported of a run: what the plugins report of the cells before the cut, then the end line, unless the report is
+/// to be bare; and whether one of them has a fault there.
 fn report_text<P: Plugin>(
     alloc: Global,
+    general: &GeneralConf,
     plugins: &mut [Heard<P>],
     items: &[PluginItem],
     closed: Closed,
-) -> Result<String, AllocError>
+) -> Result<Judged, AllocError>
     requires numbers { length plugins.old < 2 ^ 62 }
     requires reach { ReachesCut (HeardStands P.rule P.stands_for) plugins.old closed.cut 0 }
     ensures { (tables : List (List (List ℕ))) (input : StageList)
         → map (by_plugin P.rule) plugins.old ≡ rules_of (named_rules items.now tables)
         → AllMetTo (HeardStands P.rule P.stands_for) (map (by_plugin P.rule) plugins.old) input closed.cut 0 plugins.old
-        → IfOk result (λ text.
-        string_bytes text ≡ reports (named_rules items.now tables) input closed.cut closed.cause) }
+        → IfOk result (λ judged.
+        (judged.faulty ≡ faults_from (rules_of (named_rules items.now tables)) input closed.cut 0 (named_rules items.now tables))
+        × (string_bytes judged.text ≡ reports_asked general.now (named_rules items.now tables) input closed.cut closed.cause)) }
 {
     let mut text = String::new(alloc);
-    push_reports(&mut text, plugins, items, 0, closed.cut)?;
-    let last = end_line_text(alloc, closed.cause, closed.cut)?;
+    let faulty = push_reports(&mut text, general.bare, plugins, items, 0, closed.cut)?;
+    let last = last_text(alloc, general.bare, closed)?;
     text.push_str(last.as_str())?;
-    Ok(text)
+    Ok(Judged { text, faulty })
 }
 
 /// Whether the closing of the output or the report failed.
@@ -47,28 +71,32 @@ fn one_failed(closing_failed: bool, report_failed: bool) -> bool
     closing_failed || report_failed
 }
 
-/// Reports a run, and returns its status.
+/// Reports a run, and returns its status. Where the report is bare and did not fail, its end is noted, to be told elsewhere.
 pub(crate) fn report_run<P: Plugin, D: Desk>(
     alloc: Global,
     desk: &mut D,
+    general: &GeneralConf,
     plugins: &mut [Heard<P>],
     items: &[PluginItem],
     closed: Closed,
     closing_failed: bool,
+    notes: &mut PluginNotes,
 ) -> Status
     requires numbers { length plugins.old < 2 ^ 62 }
     requires reach { ReachesCut (HeardStands P.rule P.stands_for) plugins.old closed.cut 0 }
     ensures { (tables : List (List (List ℕ))) (input : StageList)
         → map (by_plugin P.rule) plugins.old ≡ rules_of (named_rules items.now tables)
         → AllMetTo (HeardStands P.rule P.stands_for) (map (by_plugin P.rule) plugins.old) input closed.cut 0 plugins.old
-        → ReportsRun (reports (named_rules items.now tables) input closed.cut closed.cause)
+        → ReportsRun general.now (reports_asked general.now (named_rules items.now tables) input closed.cut closed.cause)
+        (faults_from (rules_of (named_rules items.now tables)) input closed.cut 0 (named_rules items.now tables))
         closed.cause closing_failed (D.seen desk.old) (D.seen desk.new) result }
 {
-    match report_text(alloc, plugins, items, closed) {
-        Ok(text) => {
+    match report_text(alloc, general, plugins, items, closed) {
+        Ok(Judged { text, faulty }) => {
             let failed = say(desk, text.as_str());
+            notes.note_end(general.bare, failed, closed);
             let late = one_failed(closing_failed, failed);
-            status_if_late(status_of_cause(closed.cause), late)
+            status_of_run(general, faulty, closed.cause, late)
         }
         Err(AllocError) => Status::NoMemory,
     }

@@ -1,10 +1,10 @@
 //! The statuses of a call, and their exit numbers.
 
-ghost use Rattle.std.specs.Prelude.{◌≡◌, ◌-◌, ◌^◌, min, if◌then◌else◌};
-ghost use Rattle.tsp_top.specs.CallOutcome.{status_of, status_of_input, status_when_late};
+ghost use Rattle.std.specs.Prelude.{◌≡◌, ◌-◌, ◌^◌, min};
+ghost use Rattle.tsp_top.specs.CallOutcome.{done_status, in_place_of_done, is_plain_end, is_plain_input, run_status, status_of, status_of_input};
 ghost use Rattle.tsp_top.specs.ExitNumber.{exit_number};
 
-use chain_args::WordsFault;
+use chain_args::{GeneralConf, WordsFault};
 use chain_model::{Cause, InputEnd, Reason};
 use tabcomp_core::TableFileFault;
 
@@ -29,6 +29,10 @@ pub enum Status {
     Refused { plugin: u32, reason: Reason },
     /// A packet would have had position 2^60.
     TooLong,
+    /// The input came to its plain end, and the words say that it is to have none (`--endless`).
+    InputEnded,
+    /// A plugin reports a fault or found nothing to do, and the words say that this is no good end (`--fail-on-faults`).
+    FaultFound,
 }
 
 impl Status {
@@ -46,12 +50,13 @@ impl Status {
             Status::TableFile { .. } => 6,
             Status::Refused { .. } => 7,
             Status::TooLong => 8,
+            Status::InputEnded | Status::FaultFound => 9,
         }
     }
 }
 
 /// The status of a cause.
-pub(crate) fn status_of_cause(cause: Cause) -> Status
+fn status_of_cause(cause: Cause) -> Status
     ensures { result ≡ status_of cause }
 {
     match cause {
@@ -85,12 +90,58 @@ fn status_of_input_end(how: InputEnd) -> Status
     }
 }
 
-/// The status, by whether a report or the closing of the output failed.
-pub(crate) fn status_if_late(status: Status, late: bool) -> Status
-    ensures { result ≡ (if late then status_when_late status else status) }
+/// Whether an input ended by its plain end.
+fn is_plain(how: InputEnd) -> bool
+    ensures { result ≡ is_plain_input how }
+{
+    match how {
+        InputEnd::End { .. } => true,
+        InputEnd::Sync { .. } | InputEnd::ReadFault | InputEnd::TooLong => false,
+    }
+}
+
+/// Whether a run ended by the plain end of its input.
+fn ended_plainly(cause: Cause) -> bool
+    ensures { result ≡ is_plain_end cause }
+{
+    match cause {
+        Cause::Input(how) => is_plain(how),
+        Cause::Joint | Cause::Until(_) | Cause::Stop(_) => false,
+        Cause::Refuse(_, _) | Cause::WriteFault | Cause::NoMemory(_) => false,
+    }
+}
+
+/// What a run is that is done, its report and its closings too, where a plugin has a fault or none has.
+fn status_if_done(general: &GeneralConf, faulty: bool, cause: Cause) -> Status
+    ensures { result ≡ done_status general.now faulty cause }
+{
+    if general.endless && ended_plainly(cause) {
+        return Status::InputEnded;
+    }
+    if general.fail_on_faults && faulty {
+        return Status::FaultFound;
+    }
+    Status::Done
+}
+
+/// The status, or the other one in the place of `Done`.
+fn other_than_done(other: Status, status: Status) -> Status
+    ensures { result ≡ in_place_of_done other status }
 {
     match status {
-        Status::Done if late => Status::WriteFault,
+        Status::Done => other,
         _ => status,
     }
+}
+
+/// The status of a run that ended by this cause, where a plugin has a fault or none has, and where a report or the closing of the
+/// output failed or did not.
+pub(crate) fn status_of_run(general: &GeneralConf, faulty: bool, cause: Cause, late: bool) -> Status
+    ensures { result ≡ run_status general.now faulty cause late }
+{
+    let status = status_of_cause(cause);
+    if late {
+        return other_than_done(Status::WriteFault, status);
+    }
+    other_than_done(status_if_done(general, faulty, cause), status)
 }

@@ -8,11 +8,11 @@ ghost use Rattle.ts_outside.specs.Faultless.{NothingFails};
 ghost use Rattle.tsp_top.specs.PlannedChain.{chain_of};
 ghost use Rattle.tsp_top.specs.PlannedTables.{AreTables};
 ghost use Rattle.tsp_top.specs.TspCall.{CallsTsp};
-ghost use Rattle.tsp_top.specs.Headline.{TellsInput, TellsTables, IsPureOrWants, IsPureOrEnds, EndsWell, SameButSizes};
+ghost use Rattle.tsp_top.specs.Headline.{TellsInput, TellsTables, IsPureOrWants, IsPureOrEnds, IsDoneOrWants, EndsWell, SameButSizes};
 ghost use Rattle.tsp_top.specs.MemoryFirst.{ArePreallocated};
 ghost use Rattle.tsp_top.specs.WantsMemory.{WantsMemoryFirst};
 ghost use Rattle.tsp_top.specs.declared.status.Status.{Status};
-ghost use Rattle.tsp_top.specs.declared.status.Status.TheVariants.{Done, NoMemory};
+ghost use Rattle.tsp_top.specs.declared.status.Status.TheVariants.{NoMemory};
 
 /// Whatever the words that have a plan, the files and the sizes, a call that meets no fault outside and does not run out of
 /// memory writes exactly the packets, prints exactly the reports, and returns exactly the status, that applying the plugins
@@ -33,14 +33,16 @@ pub fn headline()
 {}
 
 /// Where the run without faults ends by the input's plain end, by joint termination, by `until` or by a stop, a call that
-/// meets no fault outside returns `Done` or `NoMemory`.
+/// meets no fault outside returns `NoMemory` or what the general options make of a run that is done: `Done`, but `InputEnded`
+/// where the input came to its plain end and `--endless` wants that it does not, and else `FaultFound` where a plugin has a fault
+/// before the cut and `--fail-on-faults` wants that none has.
 pub fn completeness()
     ensures { (words : List (List ℕ)) (plan : Plan) (tables : List (List (List ℕ)))
         (files : List (List ℕ × List ℕ)) (old new : DeskView) (status : Status)
         → plan_of words ≡ Some plan → TellsInput plan.input old files
         → TellsTables plan.plugins old files → AreTables old plan.plugins tables
         → CallsTsp words old new status → NothingFails old new
-        → EndsWell (pure_run (chain_of plan tables files)).cause → (status ≡ Done) ⊎ (status ≡ NoMemory) }
+        → EndsWell (pure_run (chain_of plan tables files)).cause → IsDoneOrWants plan tables files status }
 {}
 
 /// The run without faults is the same for plans that differ in the three sizes and in their threads alone.

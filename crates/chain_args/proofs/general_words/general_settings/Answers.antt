@@ -1,6 +1,8 @@
-use Rattle.std.proofs.Common.{refl}
+use Rattle.std.proofs.Common.{ℕ, Option, refl, ap, ◌∙◌}
+use Rattle.std.specs.Prelude.{unwrap_or}
 use Rattle.chain_args.specs.General.{general, general_rows}
 use Rattle.plugin_options.proofs.RefusalLemmas.{all_true, malformed, nothing_broken, value_refused}
+use Rattle.chain_args.proofs.GeneralLemmas.{general-same}
 use Rattle.chain_args.proofs.general_words.general_settings.Goals as goal
 
 pub returns-in_err-buffer_packets-clause-reads : goal.returns-in_err-buffer_packets-clause-reads
@@ -24,15 +26,16 @@ returns-clause-reads c = (
       (all_true _ _ c.in_ok-add_start_stuffing.ensures.reads.0 (all_true _ _ c.in_ok-add_stop_stuffing.ensures.reads.0 (all_true _ _ c.in_ok-between.ensures.reads.0
       (all_true _ _ c.in_ok-buffer_packets.ensures.reads.0 (all_true _ _ c.in_ok-max_flushed_packets.ensures.reads.0 (all_true _ _ c.in_ok-max_input_packets.ensures.reads.0 (all_true _ _ c.in_ok-threads.ensures.0 refl)))))))
       refl,
-  cc (
-    c.in_ok-add_start_stuffing.ensures.reads.1,
-    c.in_ok-add_stop_stuffing.ensures.reads.1,
-    c.in_ok-between.ensures.reads.1,
-    c.in_ok-buffer_packets.ensures.reads.1,
-    c.in_ok-max_flushed_packets.ensures.reads.1,
-    c.in_ok-max_input_packets.ensures.reads.1,
-    c.in_ok-threads.ensures.1,
-    c.unwrap_or.ensures,
-    c.has_flag.ensures,
-  ),
+  general-same _ _ _ _ _ _ _ _ _ _ _ _ _ _ _ _ _ _ _ _ _ _
+      c.in_ok-add_start_stuffing.ensures.reads.1
+      c.in_ok-add_stop_stuffing.ensures.reads.1
+      (c.unwrap_or.ensures ∙ ap (λ (o : Option (ℕ × ℕ)). unwrap_or o (0, 1)) c.in_ok-between.ensures.reads.1)
+      c.in_ok-buffer_packets.ensures.reads.1
+      c.in_ok-max_flushed_packets.ensures.reads.1
+      c.in_ok-max_input_packets.ensures.reads.1
+      c.has_flag-ignore_joint_termination.ensures
+      c.has_flag-bare.ensures
+      c.has_flag-endless.ensures
+      c.has_flag-fail_on_faults.ensures
+      c.in_ok-threads.ensures.1,
 )

@@ -1,9 +1,11 @@
 use Rattle.std.proofs.Common.{is_err, ap, map, List, ◌∙◌, sym, refl, inl, inr}
 use Rattle.plugin_set.specs.declared.plugin_item.PluginItem.{PluginItem}
-use Rattle.chain_model.specs.Reports.{reports, rules_of}
+use Rattle.chain_model.specs.Reports.{rules_of}
 use Rattle.ts_outside.specs.Desk.{DeskView}
 use Rattle.tsp_top.specs.ByPlugin.{by_plugin}
 use Rattle.tsp_top.specs.PlannedChain.{named_rules}
+use Rattle.tsp_top.specs.Faults.{faults_from}
+use Rattle.tsp_top.specs.Printed.{reports_asked}
 use Rattle.tsp_top.specs.Openings.{output_closed_as}
 use Rattle.tsp_top.proofs.RunLemmas.{run-met, if-ok, on-err, on-true-is_err, reports-run-same}
 use Rattle.tsp_top.proofs.finishing.finish.Goals as goal
@@ -26,8 +28,9 @@ returns-in-Ok g c = λ tables stuffing numbers from plugins to rules ends.
         record {
           made = c.args.end.plugins.items;
           run = run;
-          reported = reports-run-same _ _ c.in-Ok.closed.cause c.is_err.result (is_err c.close_output-closing.result) (g.D.Desk.seen c.close_output-closing.new.desk) _ _ _
-              (ap (λ (items : List PluginItem). reports (named_rules items tables) run.list c.in-Ok.closed.cut c.in-Ok.closed.cause) c.as_slice.ensures)
+          reported = reports-run-same c.args.plan.now.general _ _ _ _ c.in-Ok.closed.cause c.is_err.result (is_err c.close_output-closing.result) (g.D.Desk.seen c.close_output-closing.new.desk) _ _ _
+              (ap (λ (items : List PluginItem). reports_asked c.args.plan.now.general (named_rules items tables) run.list c.in-Ok.closed.cut c.in-Ok.closed.cause) c.as_slice.ensures)
+              (ap (λ (items : List PluginItem). faults_from (rules_of (named_rules items tables)) run.list c.in-Ok.closed.cut 0 (named_rules items tables)) c.as_slice.ensures)
               c.is_err.ensures.value
               (c.close_output-closing.ensures.closed
               ∙ ap (λ (d : DeskView). output_closed_as g.D.Out.Sink.seen d c.args.end.output (is_err c.close_output-closing.result)) c.close_input.ensures.closed)
