@@ -26,14 +26,15 @@ PLUGINS = {
     "rate": ["rate", "rate --interval 100 --pid {pid}", "rate --interval 250 --min {many} --max 20000000", "rate --pcr-pid {pid} --only-label 3"],
     "remap": ["remap --no-psi --unchecked {source}=33", "remap --no-psi 7777=7778", "remap --unchecked {source}=33",
               "remap {source}=257"],
-    "inject": ["inject {table} --pid {source} --replace", "inject {table} --pid 4000 --inter-packet {few}"],
+    "inject": ["inject {table} --pid {source} --replace", "inject {table} --pid 4000 --inter-packet {few}",
+               "inject {table} --pid {source} --inter-packet {few} --every 66/{few},0/{many},1/3 --fix-counters"],
     "pat": ["pat --remove-service {service} --increment-version", "pat --ts-id {few}"],
     "cat": ["cat --add-ca 0x1800/{source}"],
-    "pmt": ["pmt --pmt-pid {source} --add-pid 300/{few}"],
+    "pmt": ["pmt --pmt-pid {source} --add-pid 300/{few}", "pmt --pmt-pid {source} --language 300/deu --remove-pid {few}-301 --drop"],
     "sdt": ["sdt --service {service} --name other", "sdt --remove-service {service}"],
     "nit": ["nit --network-name net"],
-    "zap": ["zap {service}", "zap {service} --stuffing"],
-    "svremove": ["svremove {service}", "svremove {service} --stuffing"],
+    "zap": ["zap {service}", "zap {service} --stuffing", "zap {service} 1 769"],
+    "svremove": ["svremove {service}", "svremove {service} --stuffing", "svremove {service} 1 769"],
     "compact": ["compact --window {few}", "compact --window {many} --stuffing", "compact --window {few} --only-label 3"],
     "rmorphan": ["rmorphan --window {few}", "rmorphan --window {many} --stuffing", "rmorphan --window {few} --only-label 3"],
     "restuff": ["restuff --from 1500000 --to 1400000", "restuff --from 13536000 --to 13000000 --window {many}",
@@ -48,6 +49,9 @@ TABLES = [programs.TOP / "examples" / name for name in ("pat.json", "cat.json", 
 
 # What is drawn for the threads of a run.
 THREADS = ["", "", "--threads auto", "--threads 1"]
+
+# What may be asked of the report and of the exit number.
+ENDS = ["--bare", "--endless", "--fail-on-faults"]
 
 # What draws the same of each kind of size.
 BUFFERS = ["--buffer-packets 1", "--buffer-packets 2", "--buffer-packets {few}", "--buffer-packets {many}", ""]
@@ -87,6 +91,11 @@ def chain_of(draw, known, tables=None):
 def sizes_of(draw):
     """Sizes of the buffer and of the batches."""
     return filled(draw, draw.choice(BUFFERS)) + " " + filled(draw, draw.choice(BATCHES))
+
+
+def ends_of(draw):
+    """What is asked of the report and of the exit number."""
+    return " ".join(option for option in ENDS if draw.random() < 0.3)
 
 
 def threads_of(draw):

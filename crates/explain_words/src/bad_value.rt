@@ -3,7 +3,7 @@ use crate::fits::{fits, wide};
 use crate::marked::put_word;
 use crate::piece::wrong_piece;
 use crate::shown_option::ShownOption;
-use plugin_options::{Sign, Takes, split_at_sign};
+use plugin_options::{Part, Sign, Takes, split_at_sign};
 use std::alloc::{AllocError, Global};
 
 /// How such a value is written.
@@ -19,7 +19,21 @@ pub(crate) fn form_text(takes: Takes) -> &'static str {
         Takes::Pairs(Sign::Equals, _, _) =>
             "two numbers have = between them, and pairs are joined by commas, as 1=2,3=4\n",
         Takes::Bytes(_, _) => "each byte is two hexadecimal digits\n",
+        Takes::Part(part) => part_text(part),
+        Takes::Numbered(_, _, Part::Code) =>
+            "a number and a code of three characters have / between them, as 257/deu,258/eng\n",
+        Takes::Numbered(_, _, Part::Descriptors) =>
+            "a number and whole descriptors in hexadecimal digits have / between them, as 257/520107,258/520108\n",
         Takes::Choice(_) | Takes::Text => "",
+    }
+}
+
+// How a part is written that stands alone.
+fn part_text(part: Part) -> &'static str {
+    match part {
+        Part::Code => "a code is three characters, as deu\n",
+        Part::Descriptors =>
+            "each byte is two hexadecimal digits; a descriptor is its tag, its length and as many bytes, as 520107\n",
     }
 }
 
@@ -30,6 +44,10 @@ pub(crate) fn list_text(takes: Takes) -> &'static str {
             "all of its numbers are given in one list, as 0,16-18,0x100\n",
         Takes::Pairs(Sign::Slash, _, _) => "all of its pairs are given in one list, as 1/2,3/4\n",
         Takes::Pairs(Sign::Equals, _, _) => "all of its pairs are given in one list, as 1=2,3=4\n",
+        Takes::Numbered(_, _, Part::Code) =>
+            "all of its codes are given in one list, as 257/deu,258/eng\n",
+        Takes::Numbered(_, _, Part::Descriptors) =>
+            "all of its descriptors are given in one list, as 257/520107,258/520108\n",
         _ => "",
     }
 }
@@ -41,7 +59,8 @@ fn has_sign(word: &str, sign: char) -> bool {
 
 // What is said where another sign is between two numbers.
 fn sign_text(takes: Takes, value: &str) -> &'static str {
-    let (Takes::Pair(sign, _, _) | Takes::Pairs(sign, _, _)) = takes else {
+    let (Takes::Pair(sign, _, _) | Takes::Pairs(sign, _, _) | Takes::Numbered(sign, _, _)) = takes
+    else {
         return "";
     };
     match sign {
@@ -53,9 +72,17 @@ fn sign_text(takes: Takes, value: &str) -> &'static str {
     }
 }
 
+// Whether a blank may stand in the value, as in a code.
+fn takes_blanks(takes: Takes) -> bool {
+    match takes {
+        Takes::Numbered(_, _, Part::Code) => true,
+        _ => false,
+    }
+}
+
 // Puts the first of these that is so: a blank in the value, a comma between operands, a piece of it that is no number.
 fn put_slip(text: &mut String, row: &ShownOption, value: &str) -> Result<(), AllocError> {
-    if has_sign(value, ' ') {
+    if has_sign(value, ' ') && !takes_blanks(row.takes) {
         return text.push_str("no blank is allowed in the value\n");
     }
     if row.many && has_sign(value, ',') {
@@ -98,7 +125,11 @@ fn put_range(text: &mut String, takes: Takes) -> Result<(), AllocError> {
             )
         }
         Takes::Bytes(least, most) => write!(text, "the range is {least} to {most} bytes\n"),
-        Takes::Ranges(_) | Takes::Choice(_) | Takes::Text => Ok(()),
+        Takes::Numbered(_, range, _) => {
+            let (least, most) = range;
+            write!(text, "the range of the number is {least} to {most}\n")
+        }
+        Takes::Ranges(_) | Takes::Part(_) | Takes::Choice(_) | Takes::Text => Ok(()),
     }
 }
 

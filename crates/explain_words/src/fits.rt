@@ -1,6 +1,7 @@
 //! Whether a word is what an option or operand takes.
 use plugin_options::{
-    Takes, read_bytes, read_number_within, read_pair, read_pair_list, read_ranges,
+    Takes, read_all_numbered, read_bytes, read_number_within, read_pair, read_pair_list, read_part,
+    read_ranges,
 };
 use std::alloc::{AllocError, Global};
 
@@ -17,6 +18,10 @@ pub(crate) fn fits(alloc: Global, takes: Takes, word: &str) -> Result<bool, Allo
             Ok(read_pair_list(alloc, word, sign.character(), one, other)?.is_some())
         }
         Takes::Bytes(least, most) => Ok(read_bytes(alloc, word, least, most)?.is_some()),
+        Takes::Part(part) => Ok(read_part(alloc, word, part)?.is_some()),
+        Takes::Numbered(sign, range, part) => {
+            Ok(read_all_numbered(alloc, word, sign.character(), range, part)?.is_some())
+        }
         Takes::Choice(names) => Ok(names.contains(&word)),
         Takes::Text => Ok(true),
     }
@@ -31,6 +36,7 @@ pub(crate) fn wide(takes: Takes) -> Takes {
         Takes::Pair(sign, _, _) => Takes::Pair(sign, any, any),
         Takes::Pairs(sign, _, _) => Takes::Pairs(sign, any, any),
         Takes::Bytes(_, _) => Takes::Bytes(0, usize::MAX),
+        Takes::Numbered(sign, _, part) => Takes::Numbered(sign, any, part),
         other => other,
     }
 }

@@ -17,7 +17,7 @@ fn no_number_of_two<'a>(one: &'a str, other: &'a str) -> Option<&'a str> {
     }
 }
 
-// The piece of one part: a number, a range or a pair.
+// The piece of one part: a number, a range, a pair, or what stands behind a number.
 fn wrong_in_part(takes: Takes, part: &str) -> Option<&str> {
     match takes {
         Takes::Number(_, _) => no_number(part),
@@ -33,14 +33,23 @@ fn wrong_in_part(takes: Takes, part: &str) -> Option<&str> {
                 None => None,
             }
         }
-        Takes::Bytes(_, _) | Takes::Choice(_) | Takes::Text => None,
+        Takes::Numbered(sign, _, _) => {
+            match split_at_sign(part, sign.character()) {
+                Some((number, _)) => no_number(number),
+                None => None,
+            }
+        }
+        Takes::Bytes(_, _) | Takes::Part(_) | Takes::Choice(_) | Takes::Text => None,
     }
 }
 
 /// The first piece of a value that should be a number and is none; commas join what a list takes.
 pub(crate) fn wrong_piece(takes: Takes, value: &str) -> Option<&str> {
     match takes {
-        Takes::Ranges(_) | Takes::RangesFrom(_, _) | Takes::Pairs(_, _, _) => {
+        Takes::Ranges(_)
+        | Takes::RangesFrom(_, _)
+        | Takes::Pairs(_, _, _)
+        | Takes::Numbered(_, _, _) => {
             for part in value.split(',') {
                 if let Some(piece) = wrong_in_part(takes, part) {
                     return Some(piece);

@@ -8,7 +8,7 @@ pub(crate) struct WordsRow {
     pub(crate) rule: WordsRule,
 }
 
-static ROWS: [WordsRow; 72] = [
+static ROWS: [WordsRow; 78] = [
     WordsRow {
         words: "-P filter --pid 9000 -O drop",
         at: 0,
@@ -200,7 +200,7 @@ static ROWS: [WordsRow; 72] = [
         rule: WordsRule::Shape,
     },
     WordsRow {
-        words: "-P zap 769 770",
+        words: "-P skip 769 770",
         at: 0,
         rule: WordsRule::Shape,
     },
@@ -216,6 +216,11 @@ static ROWS: [WordsRow; 72] = [
     },
     WordsRow {
         words: "-P remap --unchecked 1=2 3=2 0x1=3",
+        at: 0,
+        rule: WordsRule::Conflict,
+    },
+    WordsRow {
+        words: "-P zap 1 2 3 4 5 6 7 8 9 10 11 12 13 14 15 16 17 18 19 20 21 22 23 24 25 26 27 28 29 30 31 32 33 34 35 36 37 38 39 40 41 42 43 44 45 46 47 48 49 50 51 52 53 54 55 56 57 58 59 60 61 62 63",
         at: 0,
         rule: WordsRule::Conflict,
     },
@@ -268,6 +273,31 @@ static ROWS: [WordsRow; 72] = [
         words: "-P pmt --pmt-pid 256 --move-pid 256:257",
         at: 0,
         rule: WordsRule::Value,
+    },
+    WordsRow {
+        words: "-P pmt --pmt-pid 256 --language 257/germ",
+        at: 0,
+        rule: WordsRule::Value,
+    },
+    WordsRow {
+        words: "-P pmt --pmt-pid 256 --language 257=deu",
+        at: 0,
+        rule: WordsRule::Value,
+    },
+    WordsRow {
+        words: "-P pmt --pmt-pid 256 --add-descriptor 5202",
+        at: 0,
+        rule: WordsRule::Value,
+    },
+    WordsRow {
+        words: "-P pmt --pmt-pid 256 --add-pid-descriptor 9000/520107",
+        at: 0,
+        rule: WordsRule::Value,
+    },
+    WordsRow {
+        words: "-P pmt --pmt-pid 256 --drop",
+        at: 0,
+        rule: WordsRule::Conflict,
     },
     WordsRow {
         words: "-P remap 256:257",

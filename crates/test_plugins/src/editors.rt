@@ -4,16 +4,16 @@ ghost use Rattle.std.specs.Prelude.{◌≡◌, [], IfOk};
 
 use crate::cells::{are_counted, each_shows, given, live, one_component, packet, packet_of};
 use plug_edit::{
-    EditCatConf, EditNitConf, EditPatConf, EditPmtConf, EditSdtConf, new_edit_cat, new_edit_nit,
-    new_edit_pat, new_edit_pmt, new_edit_sdt,
+    EditCatConf, EditNitConf, EditPatConf, EditPmtConf, EditSdtConf, PmtChanges, new_edit_cat,
+    new_edit_nit, new_edit_pat, new_edit_pmt, new_edit_sdt,
 };
-use plugin_options::{NumberSet, PairList};
+use plugin_options::{NumberSet, NumberedParts, PairList};
 use plugin_trait::Plugin;
 use std::alloc::{AllocError, Global};
 use std::process::Abort;
 use std::test::Fail;
 use ts_bits::DescriptorList;
-use ts_outside::NameText;
+use ts_outside::{FileBytes, NameText};
 use ts_packet::{Cell, Packet};
 use ts_psi::{Cat, Component};
 use ts_si::{Nit, NitStreamList, Sdt, SdtServiceList};
@@ -76,6 +76,22 @@ fn pmt_packet(alloc: Global) -> Result<Packet, Fail> {
     packet_of(alloc, 4096, pmt.sections(alloc))
 }
 
+/// No changes of descriptors.
+fn no_changes(alloc: Global) -> PmtChanges
+    ensures languages { result.language ≡ [] }
+    ensures systems { result.add_ca ≡ [] }
+    ensures placed { result.add_pid_descriptor ≡ [] }
+{
+    PmtChanges {
+        remove_descriptor: no_numbers(alloc),
+        remove_pid_descriptor: PairList::of(Vec::new(alloc)),
+        language: NumberedParts::of(Vec::new(alloc)),
+        add_ca: PairList::of(Vec::new(alloc)),
+        add_descriptor: FileBytes::of(Vec::new(alloc)),
+        add_pid_descriptor: NumberedParts::of(Vec::new(alloc)),
+    }
+}
+
 /// That packet after PID 257 was moved.
 fn with_a_pid_moved(alloc: Global) -> Result<Vec<Cell>, Fail> {
     let packet = pmt_packet(alloc)?;
@@ -86,6 +102,9 @@ fn with_a_pid_moved(alloc: Global) -> Result<Vec<Cell>, Fail> {
         remove_pid: no_numbers(alloc),
         move_pid: PairList::of(moved),
         pcr_pid: None,
+        changes: no_changes(alloc),
+        drop: false,
+        stuffing: false,
         new_version: None,
         increment_version: false,
     };

@@ -5,6 +5,7 @@ ghost use Rattle.plug_inject.specs.InjectSettings.{IsValidMode};
 use crate::cells::{given, one_service};
 use crate::compared::same;
 use plug_inject::{InjectConf, InjectMode, new_inject};
+use plugin_options::PairList;
 use plugin_trait::ListEnd;
 use std::alloc::Global;
 use std::process::Abort;
@@ -32,6 +33,8 @@ fn injected(alloc: Global, mode: InjectMode, sections: Vec<Section>) -> Result<V
         file: NameText::of(String::new(alloc)),
         pid: 0,
         mode,
+        fix_counters: false,
+        every: PairList::of(Vec::new(alloc)),
     };
     let (end, cells) = given(new_inject(alloc, &conf, sections), cells)?;
     match end {

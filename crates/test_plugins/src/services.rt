@@ -5,7 +5,7 @@ ghost use Rattle.std.specs.Prelude.{[], IfOk};
 
 use crate::cells::{bytes_from, given, live};
 use crate::compared::{holds, same};
-use plug_service::{ServiceConf, new_svremove, new_zap};
+use plug_service::{ServiceConf, ServiceList, new_svremove, new_zap};
 use plugin_trait::Plugin;
 use std::alloc::{AllocError, Global};
 use std::process::Abort;
@@ -69,7 +69,7 @@ fn begins(rt: &impl Abort, cells: &[Cell], wanted: &[u8]) {
 /// What is left where service 1 is kept.
 fn kept(alloc: Global) -> Result<Vec<Cell>, Fail> {
     let conf = ServiceConf {
-        service: 1,
+        services: ServiceList::of(alloc, &[1])?,
         stuffing: false,
     };
     made_of_stream(alloc, new_zap(alloc, &conf, 1))
@@ -92,7 +92,7 @@ fn is_kept(rt: &impl Abort, cells: &[Cell]) {
 /// What is left where service 1 is taken out.
 fn without_it(alloc: Global) -> Result<Vec<Cell>, Fail> {
     let conf = ServiceConf {
-        service: 1,
+        services: ServiceList::of(alloc, &[1])?,
         stuffing: true,
     };
     made_of_stream(alloc, new_svremove(alloc, &conf, 1))

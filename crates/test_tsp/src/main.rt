@@ -5,6 +5,7 @@
 //! Where an argument is given, it names a list of calls, and only these are made (`tests/calls`).
 #![tactic(auto)]
 
+mod asked_rows;
 mod bytes;
 mod carried;
 mod chain_table;
@@ -99,7 +100,7 @@ fn write_tables<R: Threads + Wait + Sync + AllocGlobal>(
 }
 
 /// All tables, in the order in which they are printed.
-fn tables() -> [&'static [Row]; 40] {
+fn tables() -> [&'static [Row]; 42] {
     [
         end_rows::rows(),
         plugin_rows::rows(),
@@ -131,6 +132,8 @@ fn tables() -> [&'static [Row]; 40] {
         small_pieces::rows(),
         invalid_packets::rows(),
         form_rows::rows(),
+        asked_rows::rows(),
+        asked_rows::of_faults(),
         word_rows::rows(),
         edit_rows::of_words(),
         service_rows::of_words(),

@@ -8,7 +8,7 @@ pub(crate) fn rows() -> &'static [Row] {
     &SERVICE_ROWS
 }
 
-static SERVICE_ROWS: [Row; 5] = [
+static SERVICE_ROWS: [Row; 7] = [
     Row {
         name: "zap leaves nothing of the other service",
         words: "-I testgen 1 1000 -P zap 1 -P count --pid 258-259,4097,8191 -O drop",
@@ -39,6 +39,18 @@ static SERVICE_ROWS: [Row; 5] = [
         input: Input::Pids(&[]),
         plan: ORDINARY,
     },
+    Row {
+        name: "zap keeps services, one of them given twice and one that is not there",
+        words: "-I testgen 1 1000 -P zap 2 9 1 2 -P count -O drop",
+        input: Input::Pids(&[]),
+        plan: ORDINARY,
+    },
+    Row {
+        name: "svremove of both services leaves nothing of them",
+        words: "-I testgen 1 1000 -P svremove 1 2 -P count -O drop",
+        input: Input::Pids(&[]),
+        plan: ORDINARY,
+    },
 ];
 
 /// Words of these plugins that are no command line.
@@ -60,8 +72,8 @@ static SERVICE_WORD_ROWS: [Row; 3] = [
         plan: ORDINARY,
     },
     Row {
-        name: "two services to take out",
-        words: "-I null 2 -P svremove 1 2 -O drop",
+        name: "sixty-three services to take out",
+        words: "-I null 2 -P svremove 1 2 3 4 5 6 7 8 9 10 11 12 13 14 15 16 17 18 19 20 21 22 23 24 25 26 27 28 29 30 31 32 33 34 35 36 37 38 39 40 41 42 43 44 45 46 47 48 49 50 51 52 53 54 55 56 57 58 59 60 61 62 63 -O drop",
         input: Input::Pids(&[]),
         plan: ORDINARY,
     },
