@@ -2,7 +2,7 @@
 use Rattle.std.proofs.Common.{◌≡◌, ℕ, List, [], ◌∷◌, None, Some, true, false, refl}
 use Rattle.ts_outside.specs.Count.{raised}
 use Rattle.ts_outside.specs.Source.{own_bytes}
-use Rattle.ts_outside.specs.Told.{before, grown}
+use Rattle.ts_outside.specs.Told.{before, grown, told_length}
 use Rattle.ts_outside.specs.Desk.{file_of, stream_name, with_input, with_output}
 use Rattle.ts_outside.specs.Memory.{fails_next, read_count}
 
@@ -13,6 +13,10 @@ counts = (refl, refl, refl)
 -- a known list grows at its end, and an unknown one stays so
 told : (grown {T = ℕ} (Some (1 ∷ [])) (2 ∷ []) ≡ Some (1 ∷ 2 ∷ [])) × (grown {T = ℕ} None (2 ∷ []) ≡ None) × (before {T = ℕ} (1 ∷ []) (Some (2 ∷ [])) ≡ Some (1 ∷ 2 ∷ []))
 told = (refl, refl, refl)
+
+-- a list that is known has its length, and of one that is not no member is
+lengths : (told_length {T = ℕ} (Some (7 ∷ 8 ∷ [])) ≡ 2) × (told_length {T = ℕ} None ≡ 0)
+lengths = (refl, refl)
 
 -- the name 97 stands twice: its first pair counts, and the unknown name 99 has no bytes
 files : List (List ℕ × List ℕ)

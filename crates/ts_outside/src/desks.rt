@@ -1,6 +1,7 @@
 //! The trait of the outside of a program.
-ghost use Rattle.std.specs.Prelude.{◌≡◌, ◌<◌, ◌≤◌, [], Some, length, take, is_err, IfOk, OnErr, IfSome};
+ghost use Rattle.std.specs.Prelude.{◌≡◌, ◌<◌, ◌≤◌, ◌^◌, [], Some, length, take, is_err, IfOk, OnErr, IfSome};
 ghost use Rattle.std.specs.Option.{option_copied, option_map};
+ghost use Rattle.ts_outside.specs.Told.{told_length};
 ghost use Rattle.ts_outside.specs.Source.{own_bytes};
 ghost use Rattle.ts_outside.specs.OpenFault.{MatchOpen};
 ghost use Rattle.ts_outside.specs.FileFault.{MatchFile};
@@ -34,7 +35,10 @@ pub trait Desk {
             (seen self.new ≡ asked_in_vain (seen self.old) Input named)
             (seen self.new ≡ seen self.old) }
         ensures source { let named = stream_name (option_copied name.entry) in
-            IfOk result (λ s. Self.In.seen s ≡ record { left = content (seen self.old) named; faults = 0; origin = own_bytes }) };
+            IfOk result (λ s. Self.In.seen s ≡ record { left = content (seen self.old) named; faults = 0; origin = own_bytes }) }
+
+        // Where its bytes are known they are fewer than 2^63: no machine holds more.
+        ensures small { IfOk result (λ s. told_length (Self.In.seen s).left < 2 ^ 63) };
 
     /// Opens a sink of this name, which has taken nothing.
     ///

@@ -4,6 +4,7 @@ ghost use Rattle.ts_outside.specs.Count.{raised};
 ghost use Rattle.std.specs.Option.{option_copied, option_map};
 ghost use Rattle.std.specs.Vec.{vec_capacity};
 ghost use Rattle.ts_outside.specs.declared.requests.Purpose.TheVariants.{Input, Output, File};
+ghost use Rattle.ts_outside.specs.Told.{told_length};
 ghost use Rattle.ts_outside.specs.Source.{own_bytes};
 ghost use Rattle.ts_outside.specs.OpenFault.{MatchOpen};
 ghost use Rattle.ts_outside.specs.FileFault.{MatchFile};
@@ -240,6 +241,7 @@ impl Desk for MemoryDesk {
             (desk_seen self.new ≡ desk_seen self.old) }
         ensures source { let named = stream_name (option_copied name.entry) in
             IfOk result (λ s. source_seen s ≡ record { left = content (desk_seen self.old) named; faults = 0; origin = own_bytes }) }
+        ensures small { IfOk result (λ s. told_length (source_seen s).left < 2 ^ 63) }
 
         // Exactly where the plan says so, apart from running out of memory.
         ensures planned { let named = stream_name (option_copied name.entry) in

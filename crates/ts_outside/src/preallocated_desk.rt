@@ -1,7 +1,8 @@
 //! A desk in memory that never fails.
-ghost use Rattle.std.specs.Prelude.{◌≡◌, ◌<◌, ◌≤◌, [], length, take, is_err, IsOk, IfOk, OnErr, IfSome};
+ghost use Rattle.std.specs.Prelude.{◌≡◌, ◌<◌, ◌≤◌, ◌^◌, [], length, take, is_err, IsOk, IfOk, OnErr, IfSome};
 ghost use Rattle.std.specs.Option.{option_copied, option_map};
 ghost use Rattle.ts_outside.specs.declared.requests.Purpose.TheVariants.{Input, Output, File};
+ghost use Rattle.ts_outside.specs.Told.{told_length};
 ghost use Rattle.ts_outside.specs.Source.{own_bytes};
 ghost use Rattle.ts_outside.specs.OpenFault.{MatchOpen};
 ghost use Rattle.ts_outside.specs.FileFault.{MatchFile};
@@ -81,6 +82,7 @@ impl Desk for PreallocatedDesk {
             (preallocated_desk self.new ≡ preallocated_desk self.old) }
         ensures source { let named = stream_name (option_copied name.entry) in
             IfOk result (λ s. preallocated_source s ≡ record { left = content (preallocated_desk self.old) named; faults = 0; origin = own_bytes }) }
+        ensures small { IfOk result (λ s. told_length (preallocated_source s).left < 2 ^ 63) }
 
         // It never fails.
         ensures preallocated { let named = stream_name (option_copied name.entry) in
