@@ -10,6 +10,8 @@ use std::alloc::{AllocError, Global};
 pub(crate) fn form_text(takes: Takes) -> &'static str {
     match takes {
         Takes::Number(_, _) => "a number is decimal, or hexadecimal after 0x\n",
+        Takes::Signed(_, _) =>
+            "a number is decimal, or hexadecimal after 0x; one below 0 is written with = and -, as =-3600\n",
         Takes::Ranges(_) | Takes::RangesFrom(_, _) =>
             "numbers and ranges are joined by commas, as 0,16-18,0x100\n",
         Takes::Pair(Sign::Slash, _, _) => "two numbers have / between them, as 1/2\n",
@@ -113,6 +115,7 @@ fn put_slip(text: &mut String, row: &ShownOption, value: &str) -> Result<(), All
 fn put_range(text: &mut String, takes: Takes) -> Result<(), AllocError> {
     match takes {
         Takes::Number(least, most) => write!(text, "the range is {least} to {most}\n"),
+        Takes::Signed(least, most) => write!(text, "the range is {least} to {most}\n"),
         Takes::RangesFrom(least, most) => {
             write!(text, "the range of each number is {least} to {most}\n")
         }

@@ -1,7 +1,7 @@
 //! Whether a word is what an option or operand takes.
 use plugin_options::{
     Takes, read_all_numbered, read_bytes, read_number_within, read_pair, read_pair_list, read_part,
-    read_ranges,
+    read_ranges, read_signed_within,
 };
 use std::alloc::{AllocError, Global};
 
@@ -9,6 +9,7 @@ use std::alloc::{AllocError, Global};
 pub(crate) fn fits(alloc: Global, takes: Takes, word: &str) -> Result<bool, AllocError> {
     match takes {
         Takes::Number(least, most) => Ok(read_number_within(word, least, most).is_some()),
+        Takes::Signed(least, most) => Ok(read_signed_within(word, least, most).is_some()),
         Takes::Ranges(most) => Ok(read_ranges(alloc, word, 0, most)?.is_some()),
         Takes::RangesFrom(least, most) => Ok(read_ranges(alloc, word, least, most)?.is_some()),
         Takes::Pair(sign, one, other) => {
@@ -32,6 +33,7 @@ pub(crate) fn wide(takes: Takes) -> Takes {
     let any = (0, u64::MAX);
     match takes {
         Takes::Number(_, _) => Takes::Number(0, u64::MAX),
+        Takes::Signed(_, _) => Takes::Signed(i64::MIN, i64::MAX),
         Takes::Ranges(_) | Takes::RangesFrom(_, _) => Takes::RangesFrom(0, u64::MAX),
         Takes::Pair(sign, _, _) => Takes::Pair(sign, any, any),
         Takes::Pairs(sign, _, _) => Takes::Pairs(sign, any, any),

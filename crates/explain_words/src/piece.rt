@@ -1,9 +1,17 @@
 //! The piece of a value that is not read as a number.
-use plugin_options::{Takes, read_number_within, split_at_sign};
+use plugin_options::{Takes, read_number_within, read_signed_within, split_at_sign};
 
 // The text, where it is no number of any range.
 fn no_number(text: &str) -> Option<&str> {
     match read_number_within(text, 0, u64::MAX) {
+        Some(_) => None,
+        None => Some(text),
+    }
+}
+
+// The text, where it is no number of any range, with `-` in front or without.
+fn no_signed(text: &str) -> Option<&str> {
+    match read_signed_within(text, i64::MIN, i64::MAX) {
         Some(_) => None,
         None => Some(text),
     }
@@ -21,6 +29,7 @@ fn no_number_of_two<'a>(one: &'a str, other: &'a str) -> Option<&'a str> {
 fn wrong_in_part(takes: Takes, part: &str) -> Option<&str> {
     match takes {
         Takes::Number(_, _) => no_number(part),
+        Takes::Signed(_, _) => no_signed(part),
         Takes::Ranges(_) | Takes::RangesFrom(_, _) => {
             match split_at_sign(part, '-') {
                 Some((low, high)) => no_number_of_two(low, high),

@@ -112,7 +112,7 @@ pub(crate) fn put_unknown_option(
         }
     }
     if is_negative(word) {
-        text.push_str("no number begins with -\n")?;
+        text.push_str("no operand begins with -\n")?;
     }
     Ok(())
 }

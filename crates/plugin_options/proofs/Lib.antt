@@ -4,5 +4,6 @@ pub mod OperandLemmas
 pub mod ParsedOptionsLemmas
 pub mod RefusalLemmas
 pub mod SignLemmas
+pub mod SignedLemmas
 mod Rows
 mod SettingsRows

@@ -1,10 +1,11 @@
--- Worked rows of pairs, ranges and parts that are joined by commas, computed on the definitions.
-use Rattle.std.proofs.Common.{◌≡◌, [], ◌∷◌, None, Some, codes, refl}
+-- Worked rows of signed numbers, pairs, ranges and parts that are joined by commas, computed on the definitions.
+use Rattle.std.proofs.Common.{◌≡◌, pos, negsuc, [], ◌∷◌, None, Some, codes, refl}
 use Rattle.ts_bits.specs.DescriptorLoop.{descriptors_from}
 use Rattle.plugin_options.specs.Number.{number_of, number_within}
 use Rattle.plugin_options.specs.Pairs.{pair_of, pairs_of}
 use Rattle.plugin_options.specs.Parts.{all_numbered_of, code_of, if_whole, numbered_of}
 use Rattle.plugin_options.specs.Ranges.{range_of, ranges_within}
+use Rattle.plugin_options.specs.Signed.{signed_of, signed_within}
 use Rattle.plugin_options.specs.declared.part.Part.TheVariants.{Code}
 
 -- two pairs, of which the second has a hexadecimal number
@@ -45,3 +46,39 @@ whole-descriptors = refl
 cut-descriptor : if_whole (0x52 ∷ 2 ∷ 0 ∷ []) ≡ None
 unfolding descriptors_from
 cut-descriptor = refl
+
+-- an hour earlier, in either writing
+hour-earlier : signed_within (negsuc 9999999) (pos 10000000) (codes "-3600") ≡ Some (negsuc 3599)
+unfolding number_of signed_of signed_within
+hour-earlier = refl
+
+hour-earlier-in-hexadecimal : signed_within (negsuc 9999999) (pos 10000000) (codes "-0xE10") ≡ Some (negsuc 3599)
+unfolding number_of signed_of signed_within
+hour-earlier-in-hexadecimal = refl
+
+-- nothing below 0 is 0
+no-shift : signed_within (negsuc 9999999) (pos 10000000) (codes "-0") ≡ Some (pos 0)
+unfolding number_of signed_of signed_within
+no-shift = refl
+
+-- the least number, and one that is less
+least-of-all : signed_within (negsuc 9) (pos 10) (codes "-10") ≡ Some (negsuc 9)
+unfolding number_of signed_of signed_within
+least-of-all = refl
+
+below-the-least-signed : signed_within (negsuc 9) (pos 10) (codes "-11") ≡ None
+unfolding number_of signed_of signed_within
+below-the-least-signed = refl
+
+-- there is no other sign, and one alone
+plus : signed_of (codes "+5") ≡ None
+unfolding number_of signed_of
+plus = refl
+
+twice : signed_of (codes "--5") ≡ None
+unfolding number_of signed_of
+twice = refl
+
+sign-alone : signed_of (codes "-") ≡ None
+unfolding number_of signed_of
+sign-alone = refl

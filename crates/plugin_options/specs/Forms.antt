@@ -1,17 +1,20 @@
 -- The forms that a value of an option or an operand may have.
 -- This project's own rule.
-use Rattle.std.specs.Prelude.{ℕ, Bool, List, is_some, true}
+use Rattle.std.specs.Prelude.{ℕ, ℤ, Bool, List, is_some, true}
 use Rattle.plugin_options.specs.HexText.{bytes_of}
 use Rattle.plugin_options.specs.Number.{number_within}
 use Rattle.plugin_options.specs.Pairs.{pair_of, pairs_of}
 use Rattle.plugin_options.specs.Parts.{all_numbered_of, part_of}
 use Rattle.plugin_options.specs.Ranges.{ranges_of, ranges_within}
+use Rattle.plugin_options.specs.Signed.{signed_within}
 use Rattle.plugin_options.specs.declared.part.Part.{Part}
 
 -- the form of a value
 pub data Form : Type 0 where
   -- a number from a least to a greatest
   number : ℕ → ℕ → Form
+  -- such a number, where `-` in front is below 0
+  signed : ℤ → ℤ → Form
   -- numbers and ranges joined by commas, none above a greatest
   ranges : ℕ → Form
   -- numbers and ranges joined by commas, none below a least or above a greatest
@@ -34,6 +37,7 @@ pub data Form : Type 0 where
 -- the text has the form
 abbrev pub has_form : Form → List ℕ → Bool
 has_form (number least most) word = is_some (number_within least most word)
+has_form (signed least most) word = is_some (signed_within least most word)
 has_form (ranges most) word = is_some (ranges_of most word)
 has_form (ranges_from least most) word = is_some (ranges_within least most word)
 has_form (pair sign first second) word = is_some (pair_of sign first second word)

@@ -4,7 +4,7 @@ use Rattle.std.specs.Prelude.{ℕ, List, map}
 use Rattle.std.specs.List.{list_any}
 use Rattle.std.specs.Str.{bytes_eq}
 use Rattle.clap.specs.Walk.{Rule}
-use Rattle.plugin_options.specs.Forms.{Form, bytes, known, number, numbered, pair, pairs, part, ranges, ranges_from, text}
+use Rattle.plugin_options.specs.Forms.{Form, bytes, known, number, numbered, pair, pairs, part, ranges, ranges_from, signed, text}
 use Rattle.plugin_options.specs.Options.{OptionRow, flag, operand, operands, rule_of_kind, value}
 use Rattle.plugin_options.specs.declared.option_row.OptionRow.{OptionRow as GivenRow}
 use Rattle.plugin_options.specs.declared.option_word.OptionWord.{OptionWord}
@@ -12,7 +12,7 @@ use Rattle.plugin_options.specs.declared.option_word.OptionWord.TheVariants.{Fla
 use Rattle.plugin_options.specs.declared.sign.Sign.{Sign}
 use Rattle.plugin_options.specs.declared.sign.Sign.TheVariants.{Equals, Slash}
 use Rattle.plugin_options.specs.declared.takes.Takes.{Takes}
-use Rattle.plugin_options.specs.declared.takes.Takes.TheVariants.{Bytes, Choice, Number, Numbered, Pair, Pairs, Part, Ranges, RangesFrom, Text}
+use Rattle.plugin_options.specs.declared.takes.Takes.TheVariants.{Bytes, Choice, Number, Numbered, Pair, Pairs, Part, Ranges, RangesFrom, Signed, Text}
 
 -- the character between the two numbers of a pair
 abbrev pub code_of_sign : Sign → ℕ
@@ -22,6 +22,7 @@ code_of_sign Equals = 61
 -- the form of what is taken
 abbrev pub form_of : Takes → Form
 form_of (Number least most) = number least most
+form_of (Signed least most) = signed least most
 form_of (Ranges most) = ranges most
 form_of (RangesFrom least most) = ranges_from least most
 form_of (Pair sign first second) = pair (code_of_sign sign) first second

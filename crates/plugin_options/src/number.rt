@@ -24,7 +24,7 @@ fn read_numeral(digits: &str, radix: u32) -> Option<u64>
 }
 
 /// The number of a text, where it is below 2^64; none where it is not a number.
-fn read_number(text: &str) -> Option<u64>
+pub(crate) fn read_number(text: &str) -> Option<u64>
     ensures some { IfSome result (λ n. number_of text.now ≡ Some n) }
     ensures none { IfNone result (IfSome (number_of text.now) (λ n. 2 ^ 64 ≤ n)) }
 {

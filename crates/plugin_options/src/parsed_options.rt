@@ -1,10 +1,10 @@
 //! The options of a segment as `clap` finds them.
-ghost use Rattle.std.specs.Prelude.{◌≡◌, ◌≤◌, ◌+◌, ◌==◌, ◌<◌, [], IfOk, IfSome, MatchResult, false, is_some, length, map, not, option_map, true, unwrap_or};
+ghost use Rattle.std.specs.Prelude.{◌≡◌, ◌≤◌, ◌≤ℤ◌, ◌+◌, ◌==◌, ◌<◌, [], IfOk, IfSome, MatchResult, false, is_some, length, map, not, option_map, true, unwrap_or};
 ghost use Rattle.std.specs.String.{string_bytes};
 ghost use Rattle.clap.specs.Simple.{app_of};
 ghost use Rattle.clap.specs.Faults.{is_simple_and_free};
 ghost use Rattle.plugin_options.specs.NumberSet.{AllBelow};
-ghost use Rattle.plugin_options.specs.Forms.{bytes, has_form, number, numbered, pair, pairs, part, ranges, ranges_from, text as any_text};
+ghost use Rattle.plugin_options.specs.Forms.{bytes, has_form, number, numbered, pair, pairs, part, ranges, ranges_from, signed, text as any_text};
 ghost use Rattle.std.specs.List.{All, filter_map, list_all};
 ghost use Rattle.plugin_options.specs.HexText.{bytes_of};
 ghost use Rattle.plugin_options.specs.Number.{number_within};
@@ -13,6 +13,7 @@ ghost use Rattle.plugin_options.specs.Pairs.{IsPairWithin, pair_of, pairs_of};
 ghost use Rattle.plugin_options.specs.Parts.{IsNumbered, all_numbered_of, part_of};
 ghost use Rattle.plugin_options.specs.Ranges.{ranges_of, ranges_within};
 ghost use Rattle.plugin_options.specs.Refusal.{IsRefusedBy};
+ghost use Rattle.plugin_options.specs.Signed.{signed_within};
 ghost use Rattle.plugin_options.specs.declared.words_rule.WordsRule.TheVariants.{Shape, Value};
 
 use crate::hex_text::read_bytes;
@@ -23,6 +24,7 @@ use crate::part::Part;
 use crate::part_text::read_part;
 use crate::ranges::read_ranges;
 use crate::refusal::Refusal;
+use crate::signed::read_signed_within;
 use crate::words_rule::WordsRule;
 use crate::{NumberSet, NumberedParts, PairList};
 use clap::error::ErrorKind;
@@ -117,6 +119,24 @@ impl<'a> ParsedOptions<'a> {
     {
         let number = self.number(name, least, most)?;
         Ok(number.unwrap_or(default))
+    }
+
+    /// The number of an option, from a least to a greatest, where `-` in front is below 0; none where it is not given.
+    pub fn signed(&self, name: &str, least: i64, most: i64) -> Result<Option<i64>, Refusal>
+        ensures reads { MatchResult result
+            (λ n. (is_formed (signed least most) name.now self.now ≡ true)
+            × (n ≡ read_value (signed_within least most) name.now self.now))
+            (IsRefusedBy Value (is_formed (signed least most) name.now self.now ≡ false)) }
+        ensures range { IfOk result (λ n. IfSome n (λ k. (least ≤ℤ k) × (k ≤ℤ most))) }
+        ensures given { IfOk result (λ n. is_some n ≡ has_value name.now self.now) }
+    {
+        let Some(text) = self.value(name) else {
+            return Ok(None);
+        };
+        match read_signed_within(text, least, most) {
+            Some(number) => Ok(Some(number)),
+            None => Err(Refusal::Broken(WordsRule::Value)),
+        }
     }
 
     /// The two numbers of an option, joined by a sign; none where it is not given.

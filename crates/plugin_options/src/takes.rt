@@ -7,6 +7,8 @@ use crate::sign::Sign;
 pub enum Takes {
     /// A number from a least to a greatest.
     Number(u64, u64),
+    /// A number from a least to a greatest, where `-` in front is below 0.
+    Signed(i64, i64),
     /// Numbers and ranges joined by commas, none above a greatest.
     Ranges(u64),
     /// Numbers and ranges joined by commas, none below a least or above a greatest.
