@@ -1,7 +1,7 @@
 -- What becomes of the packets on a PID if services are kept or removed.
 -- This project's own rule, over the PAT of ISO/IEC 13818-1, 2.4.4.3 and the SDT on PID 17 of ETSI EN 300 468, 5.1.3. First
 -- come PID 0 and PID 17, whose tables are edited, then the PIDs of the services' PMTs, then the PIDs that these PMTs have.
-use Rattle.std.specs.Prelude.{ℕ, ◌==◌, ◌&&◌, ◌||◌, Bool, true, false, not, nat_lt, List, [], count_by, filter, filter_map, Option, if◌then◌else◌}
+use Rattle.std.specs.Prelude.{ℕ, ◌<◌, ◌==◌, ◌&&◌, ◌||◌, Bool, true, false, not, nat_lt, List, [], count_by, filter, filter_map, Option, if◌then◌else◌}
 use Rattle.std.specs.List.{flat_map}
 use Rattle.ts_packet.specs.declared.numbers.TheConstants.{NULL_PID}
 use Rattle.ts_table_rows.specs.TableValues.{TableHolding}
@@ -64,13 +64,21 @@ abbrev pub is_in_pmts_alone : List ℕ → Option TableHolding → (ℕ → Opti
 is_in_pmts_alone services pat pmts pid =
     has_pid (own_pids services pmts) pid && not (has_pid (other_pids services pat pmts) pid)
 
+-- what becomes of packets on a PID by three tests of it: whether the services have PMTs there, whether another entry of the PAT
+-- has it too, and whether their PMTs have it; if the services are removed, and no other's
+abbrev pub action_by : Way → Bool → Bool → Bool → ℕ → Action
+action_by Keep is_of_pmt is_shared is_in_pmt pid = edited_first pid (kept_action is_of_pmt is_in_pmt pid)
+action_by Remove is_of_pmt is_shared is_in_pmt_alone pid = edited_first pid (removed_action is_of_pmt is_shared is_in_pmt_alone pid)
+
+-- what the last of these tests is
+abbrev pub is_in_pmts : Way → List ℕ → Option TableHolding → (ℕ → Option TableHolding) → ℕ → Bool
+is_in_pmts Keep services pat pmts pid = has_pid (own_pids services pmts) pid
+is_in_pmts Remove services pat pmts pid = is_in_pmts_alone services pat pmts pid
+
 -- what becomes of packets on a PID if this PAT and these PMTs are in force
 abbrev pub action_of : Way → List ℕ → Option TableHolding → (ℕ → Option TableHolding) → ℕ → Action
-action_of Keep services pat pmts pid =
-    edited_first pid (kept_action (has_pid (pmt_pids services pat) pid) (has_pid (own_pids services pmts) pid) pid)
-action_of Remove services pat pmts pid =
-    edited_first pid (removed_action
-    (has_pid (pmt_pids services pat) pid) (has_pid (shared_pids services pat) pid) (is_in_pmts_alone services pat pmts pid) pid)
+action_of way services pat pmts pid =
+    action_by way (has_pid (pmt_pids services pat) pid) (has_pid (shared_pids services pat) pid) (is_in_pmts way services pat pmts pid) pid
 
 -- what becomes of packets on a PID after these packets of any PID
 unfoldable pub action_after : Way → List ℕ → List (List ℕ) → ℕ → Action
@@ -96,3 +104,11 @@ is_edit Drop = false
 -- SDT
 abbrev pub may_be_read : ℕ → List (List ℕ) → Bool
 may_be_read pid packets = (pid == 17) || may_have_tables pid packets
+
+-- a PID whose packets are edited as those of PMTs is not that of null packets
+abbrev pub IsEditable : Action → ℕ → Type 0
+IsEditable EditPmt pid = pid < NULL_PID
+IsEditable EditPat pid = Unit {0}
+IsEditable EditSdt pid = Unit {0}
+IsEditable Pass pid = Unit {0}
+IsEditable Drop pid = Unit {0}

@@ -4,8 +4,7 @@ ghost use Rattle.std.specs.Prelude.{◌≡◌, ℕ, ◌++◌, ◌∷◌, [], Lis
 ghost use Rattle.ts_demux.specs.TablesOn.{Completes, packets_on};
 ghost use Rattle.ts_packet.specs.Header.{pid_of};
 ghost use Rattle.plug_psi.specs.ForceStands.{StandsFor as Forced, pats_in};
-ghost use Rattle.plug_service.specs.Actions.{action_after, is_edit};
-ghost use Rattle.plug_service.specs.ActionsState.{IsEditable};
+ghost use Rattle.plug_service.specs.Actions.{IsEditable, action_after, is_edit};
 ghost use Rattle.plug_service.specs.ServiceRule.{made_by};
 ghost use Rattle.plug_service.specs.EditorsState.{left_by};
 

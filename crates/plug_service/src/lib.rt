@@ -4,6 +4,7 @@
 #![tactic(auto)]
 
 mod action;
+mod action_row;
 mod editors;
 mod limits;
 mod pat_part;

@@ -6,8 +6,8 @@ ghost use Rattle.ts_demux.specs.TablesOn.{Completes, packets_on};
 ghost use Rattle.plug_psi.specs.InForce.{may_have_tables, pat_of, pmt_of};
 ghost use Rattle.plug_psi.specs.ForceStands.{StandsFor as Forced, pats_in};
 ghost use Rattle.plug_psi.specs.SameForce.{SameInForce};
-ghost use Rattle.plug_service.specs.Actions.{action_after, is_edit, may_be_read};
-ghost use Rattle.plug_service.specs.ActionsState.{ActionsStand, IsEditable};
+ghost use Rattle.plug_service.specs.Actions.{IsEditable, action_after, is_edit, may_be_read};
+ghost use Rattle.plug_service.specs.ActionsState.{ActionsStand};
 ghost use Rattle.plug_service.specs.Presence.{is_any_there, is_there, is_there_after};
 
 use crate::action::Action;

@@ -1,7 +1,7 @@
 use Rattle.plug_psi.specs.InForce.{pmt_of}
 use Rattle.plug_psi.specs.ServicePids.{pids_of}
 use Rattle.plug_service.proofs.PidLemmas.{own-all, own-next}
-use Rattle.plug_service.proofs.pid_actions.own_pids.Goals as goal
+use Rattle.plug_service.proofs.action_row.own_pids.Goals as goal
 
 pub loop-service-preserved : goal.loop-service-preserved
 loop-service-preserved c = λ fed f.

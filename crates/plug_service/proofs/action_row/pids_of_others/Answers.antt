@@ -3,7 +3,7 @@ use Rattle.ts_psi.specs.PatTables.{service_item}
 use Rattle.plug_psi.specs.InForce.{pmt_of, service_in}
 use Rattle.plug_service.specs.Actions.{pids_besides}
 use Rattle.plug_psi.proofs.PidLemmas.{added-next, added-all}
-use Rattle.plug_service.proofs.pid_actions.pids_of_others.Goals as goal
+use Rattle.plug_service.proofs.action_row.pids_of_others.Goals as goal
 
 pub loop-entry-preserved : goal.loop-entry-preserved
 loop-entry-preserved c = λ fed f.

@@ -4,7 +4,7 @@ use Rattle.plug_psi.specs.InForce.{pmt_of}
 use Rattle.plug_psi.specs.ForceStands.{StandsFor}
 use Rattle.plug_service.specs.Actions.{pids_besides}
 use Rattle.plug_psi.proofs.PatLemmas.{pairs_of}
-use Rattle.plug_service.proofs.pid_actions.pids_of_others.Given as goal
+use Rattle.plug_service.proofs.action_row.pids_of_others.Given as goal
 
 -- the PIDs so far and those of the services that are left
 abbrev pub invariant-loop-entry : goal.invariant-loop-entry

@@ -2,7 +2,7 @@ use Rattle.std.proofs.Common.{◌≡◌, ℕ, ◌++◌, List, drop}
 use Rattle.plug_psi.specs.InForce.{pmt_of}
 use Rattle.plug_psi.specs.ForceStands.{StandsFor}
 use Rattle.plug_service.specs.Actions.{own_pids}
-use Rattle.plug_service.proofs.pid_actions.own_pids.Given as goal
+use Rattle.plug_service.proofs.action_row.own_pids.Given as goal
 
 -- the PIDs so far and those of the services that are left
 abbrev pub invariant-loop-service : goal.invariant-loop-service
