@@ -33,6 +33,7 @@ PLUGINS = {
     "pmt": ["pmt --pmt-pid {source} --add-pid 300/{few}", "pmt --pmt-pid {source} --language 300/deu --remove-pid {few}-301 --drop"],
     "sdt": ["sdt --service {service} --name other", "sdt --remove-service {service}"],
     "nit": ["nit --network-name net"],
+    "time": ["time --shift=-{many}", "time --shift=3600", "time --shift=0 --only-label 3"],
     "zap": ["zap {service}", "zap {service} --stuffing", "zap {service} 1 769"],
     "svremove": ["svremove {service}", "svremove {service} --stuffing", "svremove {service} 1 769"],
     "compact": ["compact --window {few}", "compact --window {many} --stuffing", "compact --window {few} --only-label 3"],

@@ -1,0 +1,7 @@
+-- The definitions of `time`.
+pub mod UtcTime
+pub mod MovedTimes
+pub mod TimeRule
+pub mod TimeSettings
+pub mod TimeWords
+pub mod TimeEntry
