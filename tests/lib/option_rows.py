@@ -10,8 +10,8 @@ import re
 TOP = pathlib.Path(__file__).resolve().parents[2]
 ROW = re.compile(r'OptionWord::\w+\(\s*"([a-z-]+)"(.*?)\),\s*text: OptionText \{\s*value: "([^"]*)",\s*meaning:\s*"((?:[^"\\]|\\.)*)"', re.S)
 
-# `0 to 31` or `ID 1 to 65535`, and such ranges at the beginning of a meaning.
-NUMBER = r"(?:2\^\d+(?: - 1)?|\d[\d,]*\d|\d)"
+# `0 to 31`, `-5 to 5` or `ID 1 to 65535`, and such ranges at the beginning of a meaning.
+NUMBER = r"(?:2\^\d+(?: - 1)?|-?\d[\d,]*\d|-?\d)"
 RANGE = rf"(?:([A-Z]+) )?({NUMBER}) to ({NUMBER})(?: bytes)?"
 RANGES = re.compile(rf"(?:{RANGE})(?:, (?:{RANGE}))*")
 

@@ -1,2 +1,7 @@
 pub mod Spoiling
+pub mod Telling
+pub mod Remembering
+pub mod Little
+pub mod Taking
+pub mod Feeding
 mod Rows

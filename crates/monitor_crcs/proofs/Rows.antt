@@ -7,7 +7,7 @@ use Rattle.ts_packet.specs.Adaptation.{adaptation_length_of}
 use Rattle.ts_demux.specs.CountedPackets.{counted}
 use Rattle.ts_demux.specs.Cut.{cut, cut_at_most, is_whole_in_front}
 use Rattle.ts_demux.specs.Part.{Part}
-use Rattle.monitor_crcs.specs.WrongCrcs.{has_crc, is_spoiled, is_told, spoiled_in, spoiled_of_parts, spoiled_of_pid}
+use Rattle.monitor_crcs.specs.WrongCrcs.{has_crc, is_spoiled, is_told, spoiled_in, spoiled_of_parts, spoiled_of_pid, told_in, told_of_parts, told_of_pid, told_piece}
 
 -- which pieces have a CRC: one of the long form, but not where its numbers are out of order or it is too short; a TOT of the
 -- short form, and no TDT
@@ -59,3 +59,12 @@ with_head pid flags = 0x47 ∷ 0x40 ∷ pid ∷ flags ∷ 0 ∷ cat 0x43
 of_a_pid : spoiled_of_pid 1 (with_head 2 0x10 ∷ with_head 1 0x90 ∷ with_head 1 0x10 ∷ []) ≡ cat 0x43 ∷ []
 unfolding counted payload_start_of payload_of adaptation_length_of spoiled_of_parts spoiled_in is_spoiled cut cut_at_most is_whole_in_front crc_of divided_row remainder field bit_of
 of_a_pid = refl
+
+-- what is told of it: its table_id; a spoiled section of another table, as an MPE section, is not told
+told_of_a_pid : told_of_pid 1 (with_head 2 0x10 ∷ with_head 1 0x90 ∷ with_head 1 0x10 ∷ []) ≡ 1 ∷ []
+unfolding counted payload_start_of payload_of adaptation_length_of told_of_parts told_in told_piece is_spoiled cut cut_at_most is_whole_in_front crc_of divided_row remainder field bit_of
+told_of_a_pid = refl
+
+not_told : told_in (0x3E ∷ drop 1 (cat 0x43)) ≡ []
+unfolding told_in told_piece is_spoiled cut cut_at_most is_whole_in_front crc_of divided_row remainder field bit_of
+not_told = refl

@@ -43,3 +43,21 @@ spoiled_of_pid pid rows = spoiled_of_parts (counted_packets pid rows)
 abbrev pub is_told : ℕ → Bool
 is_told table_id =
     list_any (λ n. table_id == n) (0 ∷ 1 ∷ 2 ∷ 64 ∷ 65 ∷ 66 ∷ 70 ∷ 74 ∷ TOT_ID ∷ []) || (nat_le 78 table_id && nat_le table_id 111)
+
+-- ---- what is told
+
+-- the table_id of a piece that is so and with whose table it is an error
+unfoldable pub told_piece : List ℕ → List ℕ
+told_piece piece = if is_spoiled piece && is_told (table_id_of piece) then table_id_of piece ∷ [] else []
+
+-- those of the pieces of a stretch
+unfoldable pub told_in : List ℕ → List ℕ
+told_in stretch = flat_map told_piece (cut stretch)
+
+-- those of a list of parts
+unfoldable pub told_of_parts : List Part → List ℕ
+told_of_parts parts = flat_map told_in (flat_map stretches (continuous_runs (without_repeats None parts)))
+
+-- those of a PID in a list of packets: a line for each
+abbrev pub told_of_pid : ℕ → List (List ℕ) → List ℕ
+told_of_pid pid rows = told_of_parts (counted_packets pid rows)

@@ -40,13 +40,23 @@ fn is_long(piece: &[u8]) -> bool
     piece[1] >> 7 == 1
 }
 
-// Its table_id.
+/// Its table_id.
 #[tactic(auto, unfolding(ts_bit_rows::specs::BitRow::field, ts_bit_rows::specs::BitRow::bit_of))]
-fn table_id(piece: &[u8]) -> u8
+pub(crate) fn table_id(piece: &[u8]) -> u8
     requires { 1 ≤ length piece.now }
     ensures { result ≡ fields.table_id_of piece.now }
 {
     piece[0]
+}
+
+/// The section_length of bytes that begin a piece.
+#[tactic(auto, unfolding(ts_bit_rows::specs::BitRow::field, ts_bit_rows::specs::BitRow::bit_of))]
+pub(crate) fn section_length(bytes: &[u8]) -> usize
+    requires { 3 ≤ length bytes.now }
+    ensures length { result ≡ fields.section_length_of bytes.now }
+    ensures range { result < 4096 }
+{
+    usize::from(bytes[1] & 0x0F) << 8 | usize::from(bytes[2])
 }
 
 // Whether its section_number is not above the last one.

@@ -16,6 +16,7 @@ use plug_rate::RateConf;
 use plug_restuff::RestuffConf;
 use plug_service::{SvremoveConf, ZapConf};
 use plug_tables::TablesConf;
+use plug_time::TimeConf;
 use plug_times::TimestampsConf;
 use plug_watch::{ContinuityOptions, CountConf};
 use plug_window::{CompactConf, RmorphanConf};
@@ -40,6 +41,7 @@ pub enum PluginConf {
     Pmt(EditPmtConf),
     Sdt(EditSdtConf),
     Nit(EditNitConf),
+    Time(TimeConf),
     Zap(ZapConf),
     Svremove(SvremoveConf),
     Analyze(AnalyzeConf),
@@ -70,6 +72,7 @@ pub enum PluginKind {
     Pmt,
     Sdt,
     Nit,
+    Time,
     Zap,
     Svremove,
     Analyze,
@@ -84,7 +87,7 @@ pub enum PluginKind {
 }
 
 /// All kinds, in the order in which help names them.
-pub(crate) static KINDS: [PluginKind; 25] = [
+pub(crate) static KINDS: [PluginKind; 26] = [
     PluginKind::Filter,
     PluginKind::Skip,
     PluginKind::Slice,
@@ -99,6 +102,7 @@ pub(crate) static KINDS: [PluginKind; 25] = [
     PluginKind::Pmt,
     PluginKind::Sdt,
     PluginKind::Nit,
+    PluginKind::Time,
     PluginKind::Zap,
     PluginKind::Svremove,
     PluginKind::Analyze,
@@ -130,6 +134,7 @@ macro_rules! of_kind {
             PluginKind::Pmt => <EditPmtConf as PluginSettings>::$name($($given),*),
             PluginKind::Sdt => <EditSdtConf as PluginSettings>::$name($($given),*),
             PluginKind::Nit => <EditNitConf as PluginSettings>::$name($($given),*),
+            PluginKind::Time => <TimeConf as PluginSettings>::$name($($given),*),
             PluginKind::Zap => <ZapConf as PluginSettings>::$name($($given),*),
             PluginKind::Svremove => <SvremoveConf as PluginSettings>::$name($($given),*),
             PluginKind::Analyze => <AnalyzeConf as PluginSettings>::$name($($given),*),
@@ -163,6 +168,7 @@ macro_rules! read_kind {
             PluginKind::Pmt => <EditPmtConf as PluginSettings>::read($alloc, $found).map(PluginConf::Pmt),
             PluginKind::Sdt => <EditSdtConf as PluginSettings>::read($alloc, $found).map(PluginConf::Sdt),
             PluginKind::Nit => <EditNitConf as PluginSettings>::read($alloc, $found).map(PluginConf::Nit),
+            PluginKind::Time => <TimeConf as PluginSettings>::read($alloc, $found).map(PluginConf::Time),
             PluginKind::Zap => <ZapConf as PluginSettings>::read($alloc, $found).map(PluginConf::Zap),
             PluginKind::Svremove => <SvremoveConf as PluginSettings>::read($alloc, $found).map(PluginConf::Svremove),
             PluginKind::Analyze => <AnalyzeConf as PluginSettings>::read($alloc, $found).map(PluginConf::Analyze),
@@ -196,6 +202,7 @@ macro_rules! each_conf {
             PluginConf::Pmt($conf) => $does,
             PluginConf::Sdt($conf) => $does,
             PluginConf::Nit($conf) => $does,
+            PluginConf::Time($conf) => $does,
             PluginConf::Zap($conf) => $does,
             PluginConf::Svremove($conf) => $does,
             PluginConf::Analyze($conf) => $does,
@@ -264,6 +271,7 @@ impl PluginConf {
             PluginConf::Pmt(_) => PluginKind::Pmt,
             PluginConf::Sdt(_) => PluginKind::Sdt,
             PluginConf::Nit(_) => PluginKind::Nit,
+            PluginConf::Time(_) => PluginKind::Time,
             PluginConf::Zap(_) => PluginKind::Zap,
             PluginConf::Svremove(_) => PluginKind::Svremove,
             PluginConf::Analyze(_) => PluginKind::Analyze,

@@ -5,10 +5,7 @@ ghost use Rattle.plugin_set.specs.Plugins.{is_silent, rule_of, preallocated_of};
 
 use crate::plugin_conf::PluginConf;
 use plug_analyze::Analyze;
-use plug_edit::{
-    EditCat, EditNit, EditPat, EditPmt, EditSdt, new_edit_cat, new_edit_nit, new_edit_pat,
-    new_edit_pmt, new_edit_sdt,
-};
+use plug_edit::{EditCat, EditNit, EditPat, EditPmt, EditSdt, new_edit_cat, new_edit_nit, new_edit_pat, new_edit_pmt, new_edit_sdt};
 use plug_end::Until;
 use plug_info::Info;
 use plug_inject::{Inject, new_inject};
@@ -19,6 +16,7 @@ use plug_rate::Rate;
 use plug_restuff::{Restuff, new_restuff};
 use plug_service::{Svremove, Zap, new_svremove, new_zap};
 use plug_tables::Tables;
+use plug_time::{Time, new_time};
 use plug_times::Timestamps;
 use plug_watch::{Continuity, Count};
 use plug_window::{Compact, Rmorphan, new_compact, new_rmorphan};
@@ -44,6 +42,7 @@ pub(crate) enum SomePlugin {
     Pmt(EditPmt),
     Sdt(EditSdt),
     Nit(EditNit),
+    Time(Time),
     Zap(Zap),
     Svremove(Svremove),
     Analyze(Analyze),
@@ -75,6 +74,7 @@ macro_rules! each_plugin {
             SomePlugin::Pmt($plugin) => $does,
             SomePlugin::Sdt($plugin) => $does,
             SomePlugin::Nit($plugin) => $does,
+            SomePlugin::Time($plugin) => $does,
             SomePlugin::Zap($plugin) => $does,
             SomePlugin::Svremove($plugin) => $does,
             SomePlugin::Analyze($plugin) => $does,
@@ -118,6 +118,7 @@ macro_rules! made_of {
             PluginConf::Pmt(conf) => made!(new_edit_pmt($alloc,conf,$buffer), SomePlugin::Pmt),
             PluginConf::Sdt(conf) => made!(new_edit_sdt($alloc,conf,$buffer), SomePlugin::Sdt),
             PluginConf::Nit(conf) => made!(new_edit_nit($alloc,conf,$buffer), SomePlugin::Nit),
+            PluginConf::Time(conf) => made!(new_time($alloc,conf,$buffer), SomePlugin::Time),
             PluginConf::Zap(conf) => made!(new_zap($alloc,&conf.service,$buffer), SomePlugin::Zap),
             PluginConf::Svremove(conf) => made!(new_svremove($alloc,&conf.service,$buffer), SomePlugin::Svremove),
             PluginConf::Analyze(conf) => made!(Analyze::new($alloc,conf,$buffer), SomePlugin::Analyze),
@@ -157,7 +158,7 @@ impl SomePlugin {
 
 impl Plugin for SomePlugin {
     ghost use Rattle.std.specs.Prelude.{refl};
-    ghost use Rattle.plugin_set.specs.declared.some_plugin.SomePlugin.TheVariants.{Filter as MadeFilter, Skip as MadeSkip, Slice as MadeSlice, Pattern as MadePattern, Until as MadeUntil, Count as MadeCount, Continuity as MadeContinuity, Remap as MadeRemap, Inject as MadeInject, Pat as MadePat, Cat as MadeCat, Pmt as MadePmt, Sdt as MadeSdt, Nit as MadeNit, Zap as MadeZap, Svremove as MadeSvremove, Analyze as MadeAnalyze, Info as MadeInfo, Tables as MadeTables, Compact as MadeCompact, Rmorphan as MadeRmorphan, Pcrverify as MadePcrverify, Timestamps as MadeTimestamps, Rate as MadeRate, Restuff as MadeRestuff};
+    ghost use Rattle.plugin_set.specs.declared.some_plugin.SomePlugin.TheVariants.{Filter as MadeFilter, Skip as MadeSkip, Slice as MadeSlice, Pattern as MadePattern, Until as MadeUntil, Count as MadeCount, Continuity as MadeContinuity, Remap as MadeRemap, Inject as MadeInject, Pat as MadePat, Cat as MadeCat, Pmt as MadePmt, Sdt as MadeSdt, Nit as MadeNit, Time as MadeTime, Zap as MadeZap, Svremove as MadeSvremove, Analyze as MadeAnalyze, Info as MadeInfo, Tables as MadeTables, Compact as MadeCompact, Rmorphan as MadeRmorphan, Pcrverify as MadePcrverify, Timestamps as MadeTimestamps, Rate as MadeRate, Restuff as MadeRestuff};
 
     ghost rule = { elim [
       | MadeFilter p ↦ ⟦<Filter as Plugin>⟧.rule p
@@ -174,6 +175,7 @@ impl Plugin for SomePlugin {
       | MadePmt p ↦ ⟦<EditPmt as Plugin>⟧.rule p
       | MadeSdt p ↦ ⟦<EditSdt as Plugin>⟧.rule p
       | MadeNit p ↦ ⟦<EditNit as Plugin>⟧.rule p
+      | MadeTime p ↦ ⟦<Time as Plugin>⟧.rule p
       | MadeZap p ↦ ⟦<Zap as Plugin>⟧.rule p
       | MadeSvremove p ↦ ⟦<Svremove as Plugin>⟧.rule p
       | MadeAnalyze p ↦ ⟦<Analyze as Plugin>⟧.rule p
@@ -202,6 +204,7 @@ impl Plugin for SomePlugin {
       | MadePmt p ↦ ⟦<EditPmt as Plugin>⟧.stands_for p
       | MadeSdt p ↦ ⟦<EditSdt as Plugin>⟧.stands_for p
       | MadeNit p ↦ ⟦<EditNit as Plugin>⟧.stands_for p
+      | MadeTime p ↦ ⟦<Time as Plugin>⟧.stands_for p
       | MadeZap p ↦ ⟦<Zap as Plugin>⟧.stands_for p
       | MadeSvremove p ↦ ⟦<Svremove as Plugin>⟧.stands_for p
       | MadeAnalyze p ↦ ⟦<Analyze as Plugin>⟧.stands_for p
@@ -230,6 +233,7 @@ impl Plugin for SomePlugin {
       | MadePmt p ↦ ⟦<EditPmt as Plugin>⟧.preallocated p
       | MadeSdt p ↦ ⟦<EditSdt as Plugin>⟧.preallocated p
       | MadeNit p ↦ ⟦<EditNit as Plugin>⟧.preallocated p
+      | MadeTime p ↦ ⟦<Time as Plugin>⟧.preallocated p
       | MadeZap p ↦ ⟦<Zap as Plugin>⟧.preallocated p
       | MadeSvremove p ↦ ⟦<Svremove as Plugin>⟧.preallocated p
       | MadeAnalyze p ↦ ⟦<Analyze as Plugin>⟧.preallocated p
@@ -258,6 +262,7 @@ impl Plugin for SomePlugin {
       | MadePmt p ↦ ⟦<EditPmt as Plugin>⟧.silent p
       | MadeSdt p ↦ ⟦<EditSdt as Plugin>⟧.silent p
       | MadeNit p ↦ ⟦<EditNit as Plugin>⟧.silent p
+      | MadeTime p ↦ ⟦<Time as Plugin>⟧.silent p
       | MadeZap p ↦ ⟦<Zap as Plugin>⟧.silent p
       | MadeSvremove p ↦ ⟦<Svremove as Plugin>⟧.silent p
       | MadeAnalyze p ↦ ⟦<Analyze as Plugin>⟧.silent p
@@ -314,6 +319,7 @@ impl Plugin for SomePlugin {
       | MadePmt p ↦ λ history mark stands. refl
       | MadeSdt p ↦ λ history mark stands. refl
       | MadeNit p ↦ λ history mark stands. refl
+      | MadeTime p ↦ λ history mark stands. refl
       | MadeZap p ↦ λ history mark stands. refl
       | MadeSvremove p ↦ λ history mark stands. refl
       | MadeAnalyze p ↦ λ history mark stands. refl

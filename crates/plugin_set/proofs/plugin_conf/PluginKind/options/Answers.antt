@@ -43,6 +43,9 @@ returns-in-Sdt c = rw c.in-Sdt.is c.options-in-Sdt.ensures
 pub returns-in-Nit : goal.returns-in-Nit
 returns-in-Nit c = rw c.in-Nit.is c.options-in-Nit.ensures
 
+pub returns-in-Time : goal.returns-in-Time
+returns-in-Time c = rw c.in-Time.is c.options-in-Time.ensures
+
 pub returns-in-Zap : goal.returns-in-Zap
 returns-in-Zap c = rw c.in-Zap.is c.options-in-Zap.ensures
 

@@ -13,6 +13,7 @@ use Rattle.plug_edit.specs.CatEntry.{cat_entry}
 use Rattle.plug_edit.specs.PmtEntry.{pmt_entry}
 use Rattle.plug_edit.specs.SdtEntry.{sdt_entry}
 use Rattle.plug_edit.specs.NitEntry.{nit_entry}
+use Rattle.plug_time.specs.TimeEntry.{time_entry}
 use Rattle.plug_service.specs.ZapEntry.{zap_entry}
 use Rattle.plug_service.specs.SvremoveEntry.{svremove_entry}
 use Rattle.plug_analyze.specs.AnalyzeEntry.{analyze_entry}
@@ -112,6 +113,12 @@ returns-in-Nit-clause-reads c = rw c.in-Nit.is (read_into conf.Nit nit_entry.opt
 
 pub returns-in-Nit-clause-valid : goal.returns-in-Nit-clause-valid
 returns-in-Nit-clause-valid c = made conf.Nit _ IsValid _ _ c.map-in-Nit.ensures.cases (λ _ p. p) c.read-in-Nit.ensures.valid
+
+pub returns-in-Time-clause-reads : goal.returns-in-Time-clause-reads
+returns-in-Time-clause-reads c = rw c.in-Time.is (read_into conf.Time time_entry.options c.args.found.now _ _ c.map-in-Time.ensures.cases c.read-in-Time.ensures.reads)
+
+pub returns-in-Time-clause-valid : goal.returns-in-Time-clause-valid
+returns-in-Time-clause-valid c = made conf.Time _ IsValid _ _ c.map-in-Time.ensures.cases (λ _ p. p) c.read-in-Time.ensures.valid
 
 pub returns-in-Zap-clause-reads : goal.returns-in-Zap-clause-reads
 returns-in-Zap-clause-reads c = rw c.in-Zap.is (read_into conf.Zap zap_entry.options c.args.found.now _ _ c.map-in-Zap.ensures.cases c.read-in-Zap.ensures.reads)

@@ -85,6 +85,12 @@ agreed-requires-in-Nit c = rw c.in-Nit.is at c.requires
 pub returns-in-Nit : goal.returns-in-Nit
 returns-in-Nit c = rw c.in-Nit.is c.agreed-in-Nit.ensures
 
+pub agreed-requires-in-Time : goal.agreed-requires-in-Time
+agreed-requires-in-Time c = rw c.in-Time.is at c.requires
+
+pub returns-in-Time : goal.returns-in-Time
+returns-in-Time c = rw c.in-Time.is c.agreed-in-Time.ensures
+
 pub agreed-requires-in-Zap : goal.agreed-requires-in-Zap
 agreed-requires-in-Zap c = rw c.in-Zap.is at c.requires
 

@@ -85,6 +85,12 @@ has_fault-requires-in-Nit c = rw c.in-Nit.is at c.requires
 pub returns-in-Nit : goal.returns-in-Nit
 returns-in-Nit c = rw c.in-Nit.is c.has_fault-in-Nit.ensures
 
+pub has_fault-requires-in-Time : goal.has_fault-requires-in-Time
+has_fault-requires-in-Time c = rw c.in-Time.is at c.requires
+
+pub returns-in-Time : goal.returns-in-Time
+returns-in-Time c = rw c.in-Time.is c.has_fault-in-Time.ensures
+
 pub has_fault-requires-in-Zap : goal.has_fault-requires-in-Zap
 has_fault-requires-in-Zap c = rw c.in-Zap.is at c.requires
 

@@ -101,6 +101,12 @@ note-requires-in-Nit c = rw c.in-Nit.is at c.requires
 pub returns-in-Nit : goal.returns-in-Nit
 returns-in-Nit c = rw c.in-Nit.is c.note-in-Nit.ensures
 
+pub note-requires-in-Time : goal.note-requires-in-Time
+note-requires-in-Time c = rw c.in-Time.is at c.requires
+
+pub returns-in-Time : goal.returns-in-Time
+returns-in-Time c = rw c.in-Time.is c.note-in-Time.ensures
+
 pub note-requires-in-Zap : goal.note-requires-in-Zap
 note-requires-in-Zap c = rw c.in-Zap.is at c.requires
 

@@ -86,6 +86,12 @@ pass_over-requires-in-Nit c = rw c.in-Nit.is at c.requires
 pub returns-in-Nit : goal.returns-in-Nit
 returns-in-Nit c = rw c.in-Nit.is c.pass_over-in-Nit.ensures
 
+pub pass_over-requires-in-Time : goal.pass_over-requires-in-Time
+pass_over-requires-in-Time c = rw c.in-Time.is at c.requires
+
+pub returns-in-Time : goal.returns-in-Time
+returns-in-Time c = rw c.in-Time.is c.pass_over-in-Time.ensures
+
 pub pass_over-requires-in-Zap : goal.pass_over-requires-in-Zap
 pass_over-requires-in-Zap c = rw c.in-Zap.is at c.requires
 

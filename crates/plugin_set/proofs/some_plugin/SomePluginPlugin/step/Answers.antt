@@ -100,6 +100,12 @@ step-requires-in-Nit c = rw c.in-Nit.is at c.requires
 pub returns-in-Nit : goal.returns-in-Nit
 returns-in-Nit c = rw c.in-Nit.is c.step-in-Nit.ensures
 
+pub step-requires-in-Time : goal.step-requires-in-Time
+step-requires-in-Time c = rw c.in-Time.is at c.requires
+
+pub returns-in-Time : goal.returns-in-Time
+returns-in-Time c = rw c.in-Time.is c.step-in-Time.ensures
+
 pub step-requires-in-Zap : goal.step-requires-in-Zap
 step-requires-in-Zap c = rw c.in-Zap.is at c.requires
 

@@ -85,6 +85,12 @@ steps-requires-in-Nit c = rw c.in-Nit.is at c.requires
 pub returns-in-Nit : goal.returns-in-Nit
 returns-in-Nit c = rw c.in-Nit.is c.steps-in-Nit.ensures
 
+pub steps-requires-in-Time : goal.steps-requires-in-Time
+steps-requires-in-Time c = rw c.in-Time.is at c.requires
+
+pub returns-in-Time : goal.returns-in-Time
+returns-in-Time c = rw c.in-Time.is c.steps-in-Time.ensures
+
 pub steps-requires-in-Zap : goal.steps-requires-in-Zap
 steps-requires-in-Zap c = rw c.in-Zap.is at c.requires
 

@@ -85,6 +85,12 @@ summary-requires-in-Nit c = rw c.in-Nit.is at c.requires
 pub returns-in-Nit : goal.returns-in-Nit
 returns-in-Nit c = rw c.in-Nit.is c.summary-in-Nit.ensures
 
+pub summary-requires-in-Time : goal.summary-requires-in-Time
+summary-requires-in-Time c = rw c.in-Time.is at c.requires
+
+pub returns-in-Time : goal.returns-in-Time
+returns-in-Time c = rw c.in-Time.is c.summary-in-Time.ensures
+
 pub summary-requires-in-Zap : goal.summary-requires-in-Zap
 summary-requires-in-Zap c = rw c.in-Zap.is at c.requires
 

@@ -1,0 +1,2 @@
+pub mod KeptPackets
+mod Rows

@@ -1,0 +1,3 @@
+-- The definitions of the lines of errors.
+pub mod Indicators
+pub mod ErrorTexts

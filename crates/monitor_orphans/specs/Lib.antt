@@ -1,0 +1,3 @@
+-- The definitions of PIDs to which no table refers.
+pub mod Orphans
+pub mod OrphanRow

@@ -1,0 +1,2 @@
+pub mod KeptClocks
+mod Rows
