@@ -1,0 +1,4 @@
+mod EveryLaws
+pub mod DueCells
+pub mod Between
+mod Rows
