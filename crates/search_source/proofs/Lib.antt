@@ -3,3 +3,4 @@ pub mod Hands
 pub mod Filled
 pub mod Views
 pub mod Through
+pub mod Kept

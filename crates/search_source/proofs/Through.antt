@@ -44,7 +44,7 @@ found-by form due tail near left_out number noted hand file given gaps (Some res
       found_is = cc;
     }
 
-same-units : (form other : Form) → 6 * unit form ≡ 6 * unit other → form ≡ other
+pub same-units : (form other : Form) → 6 * unit form ≡ 6 * unit other → form ≡ other
 same-units form other e = let same : unit form ≡ unit other = omega arith in same-form form other same
 
 pub found-of : (form : Form) (file given : List ℕ) (gaps : List Gap) (old new : SearchView) (inner : SourceView) → old.coming ≡ Some (found_in form file)

@@ -5,13 +5,13 @@ use Rattle.std.proofs.lemmas.List.{take_all, drop_all, nil_from_length}
 use Rattle.packet_forms.specs.declared.forms.Form.{Form}
 use Rattle.packet_forms.specs.Stripped.{unit}
 use Rattle.packet_search.specs.Search.{Searched, search_from}
-use Rattle.ts_outside.specs.Told.{before}
+use Rattle.ts_outside.specs.Told.{before, told_length}
 use Rattle.ts_outside.specs.Source.{SourceView}
 use Rattle.search_source.specs.declared.gap.Gap.{Gap}
 use Rattle.search_source.specs.declared.finder.Finder.{Finder}
 use Rattle.search_source.specs.Gaps.{counted, gaps_from}
 use Rattle.search_source.specs.Coming.{Coming, ungiven, coming_of, coming_from, coming, hand_of}
-use Rattle.search_source.specs.SearchView.{SearchView, plain, unsearched, search_view, told_length, IsAtEnd}
+use Rattle.search_source.specs.SearchView.{SearchView, plain, unsearched, search_view, IsAtEnd}
 use Rattle.search_source.proofs.Hands.{hand-has}
 
 -- bytes that are given one behind another

@@ -2,3 +2,5 @@
 pub mod Gaps
 pub mod Coming
 pub mod SearchView
+pub mod Kept
+pub mod FileView

@@ -46,11 +46,6 @@ search_view finder first now =
 abbrev pub IsAtEnd : Finder → Option Coming → Type 0
 IsAtEnd finder coming = IfSome coming (λ c. c ≡ record { bytes = []; gaps = option_to_list finder.noted; packets = counted finder.number; behind = counted finder.left })
 
--- how many bytes are left, where they are known; none where they are not
-abbrev pub told_length : Option (List ℕ) → ℕ
-told_length None = 0
-told_length (Some left) = length left
-
 -- after so many reads so many bytes are left at most, where they are known
 abbrev pub IsWithin : Option (List ℕ) → ℕ → Bool → Type 0
 IsWithin None reads ended = Unit {0}

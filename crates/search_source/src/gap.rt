@@ -1,5 +1,5 @@
 //! Bytes that are left out before a packet.
-ghost use Rattle.std.specs.Prelude.{◌≡◌, ◌<◌, ◌++◌, None, option_to_list};
+ghost use Rattle.std.specs.Prelude.{◌≡◌, ◌<◌, ◌++◌, None, true, option_to_list};
 ghost use Rattle.search_source.specs.Gaps.{gap_before};
 
 /// Bytes that are left out before a packet. Both numbers saturate at `u64::MAX`.
@@ -23,4 +23,14 @@ pub(crate) fn noted_with(noted: Option<Gap>, number: u64, left: u64) -> Option<G
         before: number,
         bytes: left,
     })
+}
+
+/// Appends a gap, if there is one, and returns whether there was memory for it.
+pub(crate) fn keep(gaps: &mut Vec<Gap>, gap: Option<Gap>) -> bool
+    ensures { result ≡ true → gaps.new.items ≡ gaps.old.items ++ option_to_list gap }
+{
+    match gap {
+        Some(gap) => gaps.push(gap).is_ok(),
+        None => true,
+    }
 }

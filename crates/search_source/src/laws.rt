@@ -1,12 +1,14 @@
 //! A law of sources of packets that are found again.
-ghost use Rattle.std.specs.Prelude.{◌≡◌, ℕ, List, Some};
+ghost use Rattle.std.specs.Prelude.{◌≡◌, ◌<◌, ◌^◌, ℕ, List, Some, false, length};
 ghost use Rattle.std.specs.Option.{option_map};
 ghost use Rattle.packet_forms.specs.declared.forms.Form.{Form};
 ghost use Rattle.packet_search.specs.Rule.{deciding_bytes};
+ghost use Rattle.ts_outside.specs.Told.{before};
 ghost use Rattle.ts_outside.specs.Source.{SourceView};
 ghost use Rattle.search_source.specs.declared.gap.Gap.{Gap};
 ghost use Rattle.search_source.specs.Coming.{found_in, ungiven};
-ghost use Rattle.search_source.specs.SearchView.{SearchView, FoundThrough, FoundOf};
+ghost use Rattle.search_source.specs.SearchView.{SearchView, plain, FoundThrough, FoundOf};
+ghost use Rattle.search_source.specs.Kept.{KeptThrough, KeptOf};
 
 /// After any reads of a file whose bytes are known, what was given and which gaps were taken is the first part of all that
 /// is found in the file, and what is left of the file itself is told. A law; it runs nothing.
@@ -15,4 +17,14 @@ pub fn what_was_read()
         → old.coming ≡ Some (found_in form file) → old.origin ≡ record { unit = deciding_bytes form; bytes = Some file }
         → old.coming ≡ option_map (ungiven given gaps) new.coming → old.origin ≡ new.origin → FoundThrough new inner
         → FoundOf form file given gaps inner.left }
+{}
+
+/// After any reads of a file whose bytes are known, and where no gap was lost, each gap of the file that was not kept is
+/// before a packet of which no byte was given. So the gaps before the packets that were given are among those kept, and
+/// are all of them. A law; it runs nothing.
+pub fn gaps_of_a_file()
+    ensures { (form : Form) (file given : List ℕ) (gaps : List Gap) (old : SourceView) (new : SearchView) (inner : SourceView)
+        → old.left ≡ Some (found_in form file).bytes → old.origin ≡ record { unit = deciding_bytes form; bytes = Some file }
+        → old.left ≡ before given (plain new).left → old.origin ≡ new.origin → length file < 2 ^ 63
+        → KeptThrough new inner false gaps → KeptOf form file given gaps }
 {}

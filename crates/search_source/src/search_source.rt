@@ -6,8 +6,8 @@
 ghost use Rattle.std.specs.Prelude.{◌≡◌, ◌^◌, ◌<◌, ◌≤◌, true, vec_len};
 ghost use Rattle.packet_forms.specs.FormView.{came};
 ghost use Rattle.packet_search.specs.Rule.{deciding_bytes};
-ghost use Rattle.search_source.specs.SearchView.{told_length, search_view, plain};
-ghost use Rattle.ts_outside.specs.Told.{before};
+ghost use Rattle.search_source.specs.SearchView.{search_view, plain};
+ghost use Rattle.ts_outside.specs.Told.{before, told_length};
 ghost use Rattle.std.proofs.Props.{props};
 
 use crate::Gap;
@@ -72,6 +72,13 @@ impl<S: Source> SearchSource<S> {
             first: _,
         } = self;
         source
+    }
+
+    /// The form of the packets.
+    pub fn form(&self) -> Form
+        ensures { result ≡ self.now.finder.form }
+    {
+        self.finder.form
     }
 
     /// The gap right before the first byte that the last read gave, if bytes are left out there.

@@ -1,8 +1,9 @@
 //! The files and standard streams of the system, as a desk.
-ghost use Rattle.std.specs.Prelude.{◌≡◌, ◌<◌, ◌≤◌, ◌||◌, [], false, length, take, is_err, vec_len, vec_capacity, IfOk, OnOk, OnErr, IfSome};
+ghost use Rattle.std.specs.Prelude.{◌≡◌, ◌<◌, ◌≤◌, ◌^◌, ◌||◌, [], false, length, take, is_err, vec_len, vec_capacity, IfOk, OnOk, OnErr, IfSome};
 ghost use Rattle.std.specs.Option.{option_copied, option_map};
 ghost use Rattle.std.specs.Str.{bytes_eq};
 ghost use Rattle.ts_outside.specs.declared.requests.Purpose.TheVariants.{Input, Output, File as Whole};
+ghost use Rattle.ts_outside.specs.Told.{told_length};
 ghost use Rattle.ts_outside.specs.Source.{own_bytes};
 ghost use Rattle.ts_outside.specs.OpenFault.{MatchOpen};
 ghost use Rattle.ts_outside.specs.FileFault.{MatchFile};
@@ -105,6 +106,7 @@ impl Desk for OsDesk {
             (untold_desk self.new ≡ untold_desk self.old) }
         ensures source { let named = stream_name (option_copied name.entry) in
             IfOk result (λ s. untold_source s ≡ record { left = content (untold_desk self.old) named; faults = 0; origin = own_bytes }) }
+        ensures small { IfOk result (λ s. told_length (untold_source s).left < 2 ^ 63) }
         ensures aside { self.new.aside ≡ self.old.aside }
     {
         if self.files.reserve_input().is_err() {

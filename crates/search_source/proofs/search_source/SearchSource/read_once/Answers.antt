@@ -2,7 +2,7 @@ use Rattle.std.proofs.Common.{◌≡◌, ◌≤◌, ap, arith}
 use Rattle.std.proofs.lemmas.Bool.{eqb-true}
 use Rattle.ts_outside.specs.Source.{SourceView}
 use Rattle.packet_forms.proofs.Through.{behind-more}
-use Rattle.search_source.specs.SearchView.{told_length}
+use Rattle.ts_outside.specs.Told.{told_length}
 use Rattle.search_source.proofs.Views.{told-less, told-none}
 use Rattle.search_source.proofs.search_source.SearchSource.read_once.Goals as goal
 

@@ -1,0 +1,35 @@
+-- Gaps that are kept as the packets behind them are given. This project's own rule.
+use Rattle.std.specs.Prelude.{ℕ, ◌≡◌, ◌*◌, ◌≤◌, Bool, false, List, [], ◌++◌, length, Option}
+use Rattle.std.specs.List.{AllByRecursion}
+use Rattle.std.specs.Option.{option_map}
+use Rattle.ts_outside.specs.Source.{SourceView}
+use Rattle.packet_forms.specs.declared.forms.Form.{Form}
+use Rattle.search_source.specs.declared.gap.Gap.{Gap}
+use Rattle.search_source.specs.Coming.{Coming, ungiven, found_in, coming_from}
+use Rattle.search_source.specs.SearchView.{SearchView, FoundThrough}
+
+-- what comes besides bytes of packets, where it is known
+abbrev pub beside : Option Coming → Option Coming
+beside coming = option_map (λ (c : Coming). record { bytes = []; gaps = c.gaps; packets = c.packets; behind = c.behind }) coming
+
+-- of all bytes of a file
+abbrev pub all_beside : Form → Option (List ℕ) → Option Coming
+all_beside form file = beside (option_map (found_in form) file)
+
+-- with these gaps first
+abbrev pub with_gaps : List Gap → Option Coming → Option Coming
+with_gaps gaps coming = option_map (ungiven [] gaps) coming
+
+-- the source of packets and the file's own stand to each other as `FoundThrough` says; and where none was lost, the gaps
+-- that were kept, and then those before the packets that were not begun, are all gaps of the file
+pub record KeptThrough (outer : SearchView) (inner : SourceView) (lost : Bool) (gaps : List Gap) : Type 0 where
+  pub through : FoundThrough outer inner
+  pub kept : lost ≡ false → all_beside through.form outer.origin.bytes
+      ≡ with_gaps gaps (beside (option_map (λ rest. coming_from through.form through.due through.tail through.near through.left through.number (through.hand ++ rest)) inner.left))
+
+-- of the gaps of a file of which these bytes of packets were given, these were kept; each other one is before a packet
+-- of which no byte was given
+pub record KeptOf (form : Form) (file given : List ℕ) (gaps : List Gap) : Type 0 where
+  pub later : List Gap
+  pub all_are : (found_in form file).gaps ≡ gaps ++ later
+  pub behind : AllByRecursion (λ (gap : Gap). length given ≤ 188 * gap.before) later

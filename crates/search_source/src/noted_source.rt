@@ -1,0 +1,127 @@
+//! A source of packets that are found again, which keeps the gaps between them.
+ghost use Rattle.std.specs.Prelude.{◌≡◌, ◌<◌, ◌≤◌, ◌^◌, true, false, vec_len};
+ghost use Rattle.packet_search.specs.Rule.{deciding_bytes};
+ghost use Rattle.search_source.specs.SearchView.{search_view, plain};
+ghost use Rattle.search_source.specs.Kept.{all_beside, beside, with_gaps};
+ghost use Rattle.ts_outside.specs.Told.{told_length};
+ghost use Rattle.std.proofs.Props.{props};
+
+use crate::gap::{Gap, keep};
+use crate::search_source::SearchSource;
+use packet_forms::Form;
+use std::alloc::Global;
+use ts_outside::{Failed, Source};
+
+/// The packets that are found in the bytes of another source, and the gaps before those that were given.
+///
+/// A gap that there was no memory for is lost, and so are those behind it: that is said, and the packets are given as well.
+pub struct NotedSource<S: Source> {
+    source: SearchSource<S>,
+    /// The gaps that came, but the one before the bytes that the last read gave.
+    gaps: Vec<Gap>,
+    /// Whether there was no memory for a gap.
+    lost: bool,
+    ghost kept: { lost ≡ false → all_beside source.finder.form (S.seen source.first.value).left
+        ≡ with_gaps gaps.items (beside (search_view source.finder (S.seen source.first.value) (S.seen source.source)).coming) } by { Prim.hlevel props },
+}
+
+/// What a source of packets was made of, and the gaps that were kept.
+pub struct NotedParts<S> {
+    pub source: S,
+    /// The form of its packets.
+    pub form: Form,
+    pub gaps: Vec<Gap>,
+    /// Whether there was no memory for a gap.
+    pub lost: bool,
+    /// After a read that was at the end, how many bytes are left out behind the last packet.
+    pub behind: u64,
+}
+
+/// Whether a gap was lost before, or the last one was not kept.
+fn is_lost(before: bool, kept: bool) -> bool
+    ensures { result ≡ false → (before ≡ false) × (kept ≡ true) }
+{
+    before || !kept
+}
+
+impl<S: Source> NotedSource<S> {
+    ghost use Rattle.std.specs.Option.{option_map};
+    ghost use Rattle.search_source.specs.Coming.{found_in};
+    ghost use Rattle.search_source.specs.Kept.{KeptThrough};
+
+    /// The packets that are found in a source, with room for its bytes, six units of them at least.
+    pub fn new(alloc: Global, source: S, form: Form, room: Vec<u8>) -> NotedSource<S>
+        requires room { deciding_bytes form ≤ vec_len room }
+        requires small { told_length (S.seen source).left < 2 ^ 63 }
+        ensures inner { result.source.source ≡ source }
+        ensures form { result.source.finder.form ≡ form }
+        ensures seen { ⟦<NotedSource<S> as Source>⟧.seen result
+            ≡ record {
+              left = option_map (λ file. (found_in form file).bytes) (S.seen source).left;
+              faults = (S.seen source).faults;
+              origin = record { unit = deciding_bytes form; bytes = (S.seen source).left };
+            } }
+    {
+        let found = SearchSource::new(source, form, room);
+        let gaps = Vec::new(alloc);
+        NotedSource {
+            source: found,
+            gaps,
+            lost: false,
+        }
+    }
+
+    /// Returns the other source as it is, and the gaps that were kept.
+    pub fn into_parts(self) -> NotedParts<S>
+        ensures inner { result.source ≡ self.source.source }
+        ensures kept { KeptThrough
+            (search_view self.source.finder (S.seen self.source.first.value) (S.seen self.source.source)) (S.seen result.source)
+            result.lost result.gaps.items }
+        ensures form { result.form ≡ self.source.finder.form }
+        ensures behind { result.behind ≡ self.source.finder.left }
+    {
+        let NotedSource {
+            source,
+            mut gaps,
+            lost,
+        } = self;
+        let behind = source.behind();
+        let form = source.form();
+        let noted = source.gap();
+        let kept = keep(&mut gaps, noted);
+        let inner = source.into_inner();
+        NotedParts {
+            source: inner,
+            form,
+            gaps,
+            lost: is_lost(lost, kept),
+            behind,
+        }
+    }
+}
+
+impl<S: Source> Source for NotedSource<S> {
+    ghost use Rattle.std.specs.Prelude.{[], length, take, IfOk, OnErr, IfSome};
+    ghost use Rattle.ts_outside.specs.Source.{unread, read_failed};
+
+    ghost seen = { λ s. plain (search_view s.source.finder (S.seen s.source.first.value) (S.seen s.source.source)) };
+
+    fn read(&mut self, into: &mut [u8]) -> Result<usize, Failed>
+        requires { 0 < length into.old }
+        ensures within { IfOk result (λ n. n ≤ length into.new) }
+        ensures moved { IfOk result (λ n. plain (search_view self.old.source.finder (S.seen self.old.source.first.value) (S.seen self.old.source.source))
+            ≡ unread (take n into.new) (plain (search_view self.new.source.finder (S.seen self.new.source.first.value) (S.seen self.new.source.source)))) }
+        ensures end { IfOk result (λ n. n ≡ 0
+            → IfSome (plain (search_view self.old.source.finder (S.seen self.old.source.first.value) (S.seen self.old.source.source))).left (λ l. l ≡ [])) }
+        ensures failed { OnErr result (plain (search_view self.new.source.finder (S.seen self.new.source.first.value) (S.seen self.new.source.source))
+            ≡ read_failed (plain (search_view self.old.source.finder (S.seen self.old.source.first.value) (S.seen self.old.source.source)))) }
+    {
+        let noted = self.source.gap();
+        let result = self.source.read(into);
+        let kept = keep(&mut self.gaps, noted);
+        if !kept {
+            self.lost = true;
+        }
+        result
+    }
+}
