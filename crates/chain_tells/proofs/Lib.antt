@@ -5,3 +5,4 @@ pub mod TakeLemmas
 pub mod TellLemmas
 pub mod LiveLemmas
 pub mod Rows
+pub mod PrintingLemmas

@@ -1,11 +1,13 @@
 -- What plugins met in a state, which line is next, and what was heard, computed.
-use Rattle.std.proofs.Common.{◌≡◌, ℕ, zero, suc, ◌+◌, List, [], ◌∷◌, length, None, Some, true, false, refl, arith}
+use Rattle.std.proofs.Common.{◌≡◌, ℕ, zero, suc, ◌+◌, List, [], ◌∷◌, length, None, Some, true, false, refl, arith, inr}
 use Rattle.ts_packet.specs.Cells.{Live, Dropped}
 use Rattle.chain_core.specs.Machine.{StageState}
 use Rattle.chain_rounds.specs.declared.told_line.ToldLine.{ToldLine}
 use Rattle.chain_tells.specs.Taking.{met_in}
 use Rattle.chain_tells.specs.Waiting.{comes_first_of}
+use Rattle.ts_outside.specs.Desk.{DeskView, reports}
 use Rattle.chain_tells.specs.Live.{lines_of_rows, HeardRows}
+use Rattle.chain_tells.specs.Printing.{PrintsOn}
 
 -- the input gave three cells, the plugin two of them, and the output one
 abbrev stages : ℕ → StageState
@@ -38,3 +40,13 @@ module _ (a b c : ToldLine) where
 
   two-rows : HeardRows counts 4 7 ((c ∷ []) ∷ (a ∷ b ∷ []) ∷ [])
   two-rows = (6, (4, refl, omega arith, refl), omega arith, refl)
+
+-- a text is printed; after a report failed, and once there was no memory for a text, nothing is
+printed : (desk : DeskView) (text : List ℕ) → PrintsOn false false false false desk (reports desk text) text
+printed desk text = inr (refl, refl)
+
+failed-before : (desk : DeskView) (text : List ℕ) → PrintsOn false true false true desk desk text
+failed-before desk text = (refl, refl, refl)
+
+wanted-before : (desk : DeskView) (text : List ℕ) → PrintsOn true false true false desk desk text
+wanted-before desk text = (refl, refl, refl)

@@ -3,3 +3,4 @@ pub mod Waiting
 pub mod Taking
 pub mod Telling
 pub mod Live
+pub mod Printing

@@ -1,5 +1,5 @@
 //! A chain in one thread that tells its lines while it runs: between two rounds each plugin is asked for its lines below what
-//! the output has given, and they are heard in the order of positions and then of the plugins.
+//! the output has given, and they are printed at a desk in the order of positions and then of the plugins.
 //!
 //! The layer above uses the clauses of `run_live`; who makes the rounds itself uses those of `take_told` and the laws. After
 //! `begin` of `chain_run` nothing was told; a round changes nothing of it; `take_told` takes what is new; and after `end` all
@@ -9,13 +9,15 @@
 
 mod laws;
 mod line_row;
-mod listener;
+mod line_texts;
 mod live_run;
+mod printing;
 mod taking;
 mod waiting_lines;
 
 pub use laws::{a_round_tells_nothing, nothing_is_told_at_first, what_was_told_is_right};
-pub use listener::Listener;
+pub use line_texts::LineTexts;
 pub use live_run::{LiveEnd, run_live};
+pub use printing::{Printing, printing_well};
 pub use taking::take_told;
 pub use waiting_lines::WaitingLines;

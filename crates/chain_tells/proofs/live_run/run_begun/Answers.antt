@@ -2,6 +2,7 @@ use Rattle.std.proofs.Common.{[], arith, refl}
 use Rattle.std.proofs.lemmas.Result.{IfOk-weaker}
 use Rattle.stage_run.specs.Seeing.{seeing}
 use Rattle.chain_run.specs.Runs.{began_with}
+use Rattle.chain_tells.specs.Printing.{PrintsLines}
 use Rattle.chain_tells.specs.Live.{lines_of_rows}
 use Rattle.chain_tells.proofs.LiveLemmas.{live-run}
 use Rattle.chain_tells.proofs.live_run.run_begun.Goals as goal
@@ -15,14 +16,12 @@ returns-clause-closed g c = λ plugins name_of from stuffing met_none to plan ru
     let begun = began_with see from stuffing met_none to plan in
     let old = c.args.run.chain in
     let new = c.run_rounds-all_told.new.chain in
-    let was = c.args.listener.now in
-    let now = c.run_rounds-all_told.new.listener in
-    let told = c.run_rounds-all_told.ensures.told begun plugins name_of was
+    let told = c.run_rounds-all_told.ensures.told begun plugins name_of (c.args.printing.now, c.args.desk.now)
     (record { w = 0; rows = []; heard = refl; tells = c.nothing_is_told_at_first.ensures begun plugins name_of old.core old.parts.items old.cells.items rules names runs }) in
     IfOk-weaker c.end.result.closed _ _
     (λ closed closes.
     let right = c.what_was_told_is_right.ensures from c.end.result.input stuffing met_none c.end.result.plugins.items to c.end.result.output plan closed plugins name_of (λ _. told.has.w) told.has.w (lines_of_rows told.has.rows)
     new.core new.parts.items new.cells.items told.has.tells closes in
-    live-run see plugins name_of g.L.Listener.hears was now c.run_rounds-all_told.result from c.end.result.input stuffing met_none c.end.result.plugins.items to c.end.result.output plan closed
+    live-run see plugins name_of (PrintsLines g.D.Desk.seen (g.L.LineTexts.text_of c.args.texts.now)) (c.args.printing.now, c.args.desk.now) (c.run_rounds-all_told.new.printing, c.run_rounds-all_told.new.desk) c.run_rounds-all_told.result from c.end.result.input stuffing met_none c.end.result.plugins.items to c.end.result.output plan closed
     new.core new.parts.items new.cells.items told closes right.0 right.1.0 right.1.1)
     (c.end.ensures.told from stuffing met_none to plan (λ _. told.has.w) told.has.tells.goes)

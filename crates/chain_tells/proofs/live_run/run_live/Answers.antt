@@ -34,7 +34,7 @@ pub returns-in_default-clause-never_began : goal.returns-in_default-clause-never
 returns-in_default-clause-never_began g c = on-err c.never_ran.result.end.closed _ c.never_ran.ensures.never
 
 pub returns-in_default-clause-silent : goal.returns-in_default-clause-silent
-returns-in_default-clause-silent g c = on-err c.never_ran.result.end.closed _ refl
+returns-in_default-clause-silent g c = on-err c.never_ran.result.end.closed _ (refl, refl)
 
 pub returns-in-Err-clause-closed : goal.returns-in-Err-clause-closed
 returns-in-Err-clause-closed g c = λ plugins name_of rules names. ok-of-err c.never_ran-in-Err.result.end.closed _ c.never_ran-in-Err.ensures.closed
@@ -46,4 +46,4 @@ returns-in-Err-clause-never_began g c =
     c.in-Err.ensures.as_they_were c.never_ran-in-Err.ensures.never)
 
 pub returns-in-Err-clause-silent : goal.returns-in-Err-clause-silent
-returns-in-Err-clause-silent g c = on-err c.never_ran-in-Err.result.end.closed _ refl
+returns-in-Err-clause-silent g c = on-err c.never_ran-in-Err.result.end.closed _ (refl, refl)

@@ -3,6 +3,7 @@ use Rattle.chain_core.specs.CoreNumbers.{CoreNumbers, progress_of_core}
 use Rattle.chain_core.specs.ChainRun.{AllEnded}
 use Rattle.stage_run.specs.Seeing.{seeing}
 use Rattle.chain_run.specs.Runs.{told_to}
+use Rattle.chain_tells.specs.Printing.{PrintsLines}
 use Rattle.chain_tells.specs.Live.{lines_of_rows}
 use Rattle.chain_tells.proofs.LiveLemmas.{told-still, parts-same, somehow-on}
 use Rattle.chain_tells.proofs.live_run.run_rounds.Goals as goal
@@ -18,12 +19,12 @@ loop-alloc-init g c = record {
 }
 
 pub tell-all_told-requires-clause-runs : goal.tell-all_told-requires-clause-runs
-tell-all_told-requires-clause-runs g c =
+tell-all_told-requires-clause-runs g c κs within =
     let see = (seeing g.S.Source.seen g.K.Sink.seen g.P.Plugin.rule g.P.Plugin.stands_for g.P.Plugin.preallocated) in
     somehow-on see c.loop-alloc.chain c.round-moved.new.self c.loop-alloc.invariant.runs c.round-moved.ensures.runs
 
 pub tell-all_told-requires-clause-rows : goal.tell-all_told-requires-clause-rows
-tell-all_told-requires-clause-rows g c =
+tell-all_told-requires-clause-rows g c κs within =
     let see = (seeing g.S.Source.seen g.K.Sink.seen g.P.Plugin.rule g.P.Plugin.stands_for g.P.Plugin.preallocated) in
     c.loop-alloc.invariant.rows ∙ sym (parts-same see c.loop-alloc.chain c.round-moved.new.self c.loop-alloc.invariant.runs c.round-moved.ensures.runs)
 
@@ -34,7 +35,7 @@ returns-then-not-moved-clause-told g c = λ begun plugins name_of first has.
     let new = c.round-moved.new.self in
     let h = c.loop-alloc.invariant.told begun plugins name_of first has in
     c.tell-all_told.ensures.told begun plugins name_of first
-    (told-still see begun plugins name_of g.L.Listener.hears first c.loop-alloc.listener old.core old.parts.items old.cells.items h new.core new.parts.items new.cells.items
+    (told-still see begun plugins name_of (PrintsLines g.D.Desk.seen (g.L.LineTexts.text_of c.args.texts.now)) first (c.loop-alloc.printing, c.loop-alloc.desk) old.core old.parts.items old.cells.items h new.core new.parts.items new.cells.items
     (c.a_round_tells_nothing.ensures begun plugins name_of (λ _. h.w) h.w (lines_of_rows h.rows) old.core new.core old.parts.items new.parts.items old.cells.items new.cells.items h.tells
     (c.round-moved.ensures.runs (told_to begun (λ _. h.w)) h.tells.goes)))
 
@@ -53,7 +54,7 @@ loop-alloc-preserved g c = record {
       let new = c.round-moved.new.self in
       let h = c.loop-alloc.invariant.told begun plugins name_of first has in
       (c.tell-all_told.ensures.told begun plugins name_of first
-      (told-still see begun plugins name_of g.L.Listener.hears first c.loop-alloc.listener old.core old.parts.items old.cells.items h new.core new.parts.items new.cells.items
+      (told-still see begun plugins name_of (PrintsLines g.D.Desk.seen (g.L.LineTexts.text_of c.args.texts.now)) first (c.loop-alloc.printing, c.loop-alloc.desk) old.core old.parts.items old.cells.items h new.core new.parts.items new.cells.items
       (c.a_round_tells_nothing.ensures begun plugins name_of (λ _. h.w) h.w (lines_of_rows h.rows) old.core new.core old.parts.items new.parts.items old.cells.items new.cells.items h.tells
       (c.round-moved.ensures.runs (told_to begun (λ _. h.w)) h.tells.goes)))).has;
   runs = c.tell-all_told.ensures.runs;
