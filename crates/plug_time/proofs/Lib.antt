@@ -1,2 +1,3 @@
 pub mod MovedLemmas
+pub mod HasTimeLemmas
 mod Rows

@@ -2,6 +2,7 @@
 //! The layer above reads the settings from the words, makes the plugin from them, and uses it by the clauses of `Plugin`.
 #![tactic(auto)]
 
+mod has_time;
 mod moved_times;
 mod numbers;
 mod section;

@@ -26,8 +26,8 @@ pub(crate) fn move_times(packet: &mut Packet, shift: i64)
     }
 }
 
-// Whether the packet counts for the sections of TDT and TOT.
-fn counts(packet: &Packet) -> bool
+/// Whether the packet counts for the sections of TDT and TOT.
+pub(crate) fn counts(packet: &Packet) -> bool
     ensures { result ≡ moved.is_of_time packet.now }
 {
     packet.pid() == TIME_PID

@@ -4,9 +4,10 @@ ghost use Rattle.std.specs.Prelude.{◌≡◌, IfOk, [], Some};
 ghost use Rattle.plug_time.specs.TimeRule.{time_rule};
 ghost use Rattle.plug_time.specs.TimeSettings.{IsValidTime};
 
+use crate::has_time::has_time;
 use crate::moved_times::move_times;
 use crate::time_conf::TimeConf;
-use plugin_trait::{Outcome, Plugin, Silent, Steps};
+use plugin_trait::{FirstFind, Outcome, Plugin, Silent, Steps};
 use std::alloc::{AllocError, Global};
 use ts_packet::{Labels, Packet};
 
@@ -15,6 +16,8 @@ use ts_packet::{Labels, Packet};
 pub struct TimeSteps {
     /// By how many seconds they are later.
     shift: i64,
+    /// The first position at which a packet had a time.
+    found: FirstFind,
     /// For how many positions after the last mark there is room.
     buffer: usize,
 }
@@ -31,31 +34,43 @@ pub fn new_time(_alloc: Global, conf: &TimeConf, buffer: usize) -> Result<Time, 
 {
     let steps = TimeSteps {
         shift: conf.shift,
+        found: FirstFind::none(),
         buffer,
     };
     Ok(Silent { steps })
 }
 
+impl TimeSteps {
+    /// Whether a packet had a TDT, or a TOT with a right CRC, that begins and ends in it.
+    pub fn has_come(&self) -> bool {
+        !self.found.is_none_below(u64::MAX)
+    }
+}
+
 impl Steps for TimeSteps {
     ghost use Rattle.std.specs.Prelude.{Some, refl};
+    ghost use Rattle.plugin_trait.specs.Finding.{IsFirstFind};
+    ghost use Rattle.plug_time.specs.HasTime.{finds_time};
     ghost use Rattle.plug_time.specs.TimeRule.{time_rule};
 
     ghost rule = { λ s. time_rule s.shift };
 
-    ghost stands_for = { λ s history. Unit {0} };
+    ghost stands_for = { λ s history. IsFirstFind finds_time history s.found };
 
     ghost preallocated = { λ s. Some s.buffer };
 
     #[inline]
-    fn step(&mut self, _at: u64, packet: &mut Packet, _labels: &mut Labels) -> Outcome {
+    fn step(&mut self, at: u64, packet: &mut Packet, _labels: &mut Labels) -> Outcome {
+        let found = has_time(packet);
+        self.found.meet(at, found);
         move_times(packet, self.shift);
         Outcome::Pass
     }
 
     fn pass_over(&mut self, _at: u64) {}
 
-    fn has_fault(&self, _cut: u64) -> bool {
-        false
+    fn has_fault(&self, cut: u64) -> bool {
+        self.found.is_none_below(cut)
     }
 
     ghost quiet = { λ plugin. record { no_lines = λ history packet labels. refl; no_summary = λ history. refl } };

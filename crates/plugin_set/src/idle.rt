@@ -5,6 +5,7 @@ use plug_inject::Inject;
 use plug_move::Remap;
 use plug_psi::Unedited;
 use plug_tables::Tables;
+use plug_time::Time;
 use std::alloc::AllocError;
 
 /// Why a plugin edited, inserted or read nothing. It explains a run, and no rule rests on it.
@@ -20,6 +21,8 @@ pub enum Idle {
     NothingToInsert,
     /// No table was read.
     NoTables,
+    /// No time came that could be moved.
+    NoTime,
 }
 
 /// Why a plugin was idle; `None` where it was not, or where it edits nothing in any case.
@@ -35,6 +38,7 @@ pub(crate) fn why_idle(plugin: &SomePlugin) -> Result<Option<Idle>, AllocError> 
         SomePlugin::Remap(plugin) => Ok(idle_remap(plugin)),
         SomePlugin::Inject(plugin) => Ok(idle_inject(plugin)),
         SomePlugin::Tables(plugin) => Ok(idle_tables(plugin)),
+        SomePlugin::Time(plugin) => Ok(idle_time(plugin)),
         _ => Ok(None),
     }
 }
@@ -65,4 +69,11 @@ fn idle_tables(plugin: &Tables) -> Option<Idle> {
         return None;
     }
     Some(Idle::NoTables)
+}
+
+fn idle_time(plugin: &Time) -> Option<Idle> {
+    if plugin.steps.has_come() {
+        return None;
+    }
+    Some(Idle::NoTime)
 }

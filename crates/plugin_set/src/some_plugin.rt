@@ -5,7 +5,10 @@ ghost use Rattle.plugin_set.specs.Plugins.{is_silent, rule_of, preallocated_of};
 
 use crate::plugin_conf::PluginConf;
 use plug_analyze::Analyze;
-use plug_edit::{EditCat, EditNit, EditPat, EditPmt, EditSdt, new_edit_cat, new_edit_nit, new_edit_pat, new_edit_pmt, new_edit_sdt};
+use plug_edit::{
+    EditCat, EditNit, EditPat, EditPmt, EditSdt, new_edit_cat, new_edit_nit, new_edit_pat,
+    new_edit_pmt, new_edit_sdt,
+};
 use plug_end::Until;
 use plug_info::Info;
 use plug_inject::{Inject, new_inject};

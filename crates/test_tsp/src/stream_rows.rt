@@ -5,12 +5,12 @@ use crate::row::Row;
 use crate::time_tables::TimeTable;
 use test_tools::ORDINARY;
 
-/// What `analyze` and `tables` report of null packets and of the generated stream.
+/// What `analyze` and `tables` report of null packets and of the generated stream, and `time` of tables with times.
 pub(crate) fn rows() -> &'static [Row] {
     &STREAM_ROWS
 }
 
-static STREAM_ROWS: [Row; 6] = [
+static STREAM_ROWS: [Row; 10] = [
     Row {
         name: "null packets alone",
         words: "-I null 2 -P analyze -O drop",
@@ -52,6 +52,44 @@ static STREAM_ROWS: [Row; 6] = [
             Carried::Time(TimeTable::WrongTot),
             Carried::Time(TimeTable::TrailingTot),
             Carried::Time(TimeTable::Rst),
+        ]),
+        plan: ORDINARY,
+    },
+    Row {
+        name: "time half an hour later, over midnight, in TDT and TOT, but not where a CRC is wrong",
+        words: "-I file in -P time --shift=1800 -P tables --pid 20 -O drop",
+        input: Input::Tables(&[
+            Carried::Time(TimeTable::Tdt),
+            Carried::Time(TimeTable::UnmarkedTdt),
+            Carried::Time(TimeTable::Tot),
+            Carried::Time(TimeTable::WrongTot),
+            Carried::Time(TimeTable::TrailingTot),
+        ]),
+        plan: ORDINARY,
+    },
+    Row {
+        name: "time without a TDT or a TOT, of which one with a wrong CRC is none",
+        words: "--fail-on-faults -I file in -P time --shift=-3600 -O drop",
+        input: Input::Tables(&[
+            Carried::Pat,
+            Carried::Time(TimeTable::WrongTot),
+            Carried::Time(TimeTable::Rst),
+        ]),
+        plan: ORDINARY,
+    },
+    Row {
+        name: "time with a TDT at the cut, which is not before it",
+        words: "--fail-on-faults -I file in -P time --shift=-0 -P until --packets 1 -O file out",
+        input: Input::Tables(&[Carried::Pat, Carried::Time(TimeTable::Tdt)]),
+        plan: ORDINARY,
+    },
+    Row {
+        name: "time with a TDT before the cut, which has the bytes that it had",
+        words: "--fail-on-faults -I file in -P time --shift=-0 -P until --packets 2 -O file out",
+        input: Input::Tables(&[
+            Carried::Pat,
+            Carried::Time(TimeTable::Tdt),
+            Carried::Time(TimeTable::Tot),
         ]),
         plan: ORDINARY,
     },

@@ -31,6 +31,9 @@ fn why_text(alloc: Global, why: Idle) -> Result<String, AllocError> {
         ),
         Idle::NothingToInsert => format!(in alloc; "its file has no sections"),
         Idle::NoTables => format!(in alloc; "no table came"),
+        Idle::NoTime => format!(in alloc;
+            "no TDT and no TOT with a right CRC came whole in a packet"
+        ),
     }
 }
 
