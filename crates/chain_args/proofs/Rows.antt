@@ -38,6 +38,7 @@ hexadecimal-pid : plan_of (codes "-I" ∷ codes "null" ∷ codes "4" ∷ codes "
         bare = false;
         endless = false;
         fail_on_faults = false;
+        live = false;
         threads = Auto;
       };
       input = Null 4;
@@ -73,6 +74,7 @@ one-thread : plan_of (codes "--threads" ∷ codes "1" ∷ codes "-I" ∷ codes "
         bare = false;
         endless = false;
         fail_on_faults = false;
+        live = false;
         threads = One;
       };
       input = Null 4;

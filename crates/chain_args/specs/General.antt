@@ -37,6 +37,7 @@ general_rows = record { name = codes "add-start-stuffing"; kind = value (number 
     ∷ record { name = codes "bare"; kind = flag }
     ∷ record { name = codes "endless"; kind = flag }
     ∷ record { name = codes "fail-on-faults"; kind = flag }
+    ∷ record { name = codes "live"; kind = flag }
     ∷ record { name = codes "threads"; kind = value (known is_threads) }
     ∷ []
 
@@ -56,6 +57,7 @@ general_settings found = record {
   bare = has_flag (codes "bare") found;
   endless = has_flag (codes "endless") found;
   fail_on_faults = has_flag (codes "fail-on-faults") found;
+  live = has_flag (codes "live") found;
   threads = unwrap_or (read_value threads_named (codes "threads") found) Auto;
 }
 

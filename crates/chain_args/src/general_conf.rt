@@ -28,6 +28,9 @@ pub struct GeneralConf {
     /// Whether a fault that a plugin found before the cut, or that it found nothing to do there, is no good end of the run: the run
     /// ends with exit number 9 then, in the place of 0.
     pub fail_on_faults: bool,
+    /// Whether each line of the report is printed soon after its packet was written, in the order of packets, and not after the
+    /// run; the chain then runs in one thread.
+    pub live: bool,
     /// How many threads serve the stages of the chain; `Auto` where it is not given.
     pub threads: StageThreads,
 }

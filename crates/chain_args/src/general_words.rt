@@ -23,7 +23,7 @@ const MOST_SIZE: u64 = 1_000_000;
 const MOST_BETWEEN: u64 = 1_000;
 
 // The general options by their names.
-static GENERAL: [OptionRow; 11] = [
+static GENERAL: [OptionRow; 12] = [
     OptionRow {
         word: OptionWord::Value("add-start-stuffing", Takes::Number(0, MOST_SIZE)),
         text: OptionText {
@@ -118,6 +118,15 @@ static GENERAL: [OptionRow; 11] = [
         },
     },
     OptionRow {
+        word: OptionWord::Flag("live"),
+        text: OptionText {
+            value: "",
+            meaning: "each line of the report is printed soon after its packet was written, in the order of packets, and the summaries after the end; the chain runs in one thread, whatever --threads says",
+            need: Need::Free,
+            beside: Beside::Any,
+        },
+    },
+    OptionRow {
         word: OptionWord::Value("threads", Takes::Choice(&["1", "auto"])),
         text: OptionText {
             value: "N",
@@ -144,6 +153,7 @@ fn general_settings(found: &ParsedOptions) -> Result<GeneralConf, Refusal>
     let bare = found.has_flag("bare");
     let endless = found.has_flag("endless");
     let fail_on_faults = found.has_flag("fail-on-faults");
+    let live = found.has_flag("live");
     Ok(GeneralConf {
         add_start_stuffing,
         add_stop_stuffing,
@@ -155,6 +165,7 @@ fn general_settings(found: &ParsedOptions) -> Result<GeneralConf, Refusal>
         bare,
         endless,
         fail_on_faults,
+        live,
         threads,
     })
 }

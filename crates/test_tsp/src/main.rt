@@ -28,6 +28,7 @@ mod invalid_packets;
 mod keeping_gate;
 mod listed_calls;
 mod listed_desk;
+mod live_rows;
 mod long_pat;
 mod meeting_gate;
 mod meeting_pairs;
@@ -100,7 +101,7 @@ fn write_tables<R: Threads + Wait + Sync + AllocGlobal>(
 }
 
 /// All tables, in the order in which they are printed.
-fn tables() -> [&'static [Row]; 42] {
+fn tables() -> [&'static [Row]; 43] {
     [
         end_rows::rows(),
         plugin_rows::rows(),
@@ -134,6 +135,7 @@ fn tables() -> [&'static [Row]; 42] {
         form_rows::rows(),
         asked_rows::rows(),
         asked_rows::of_faults(),
+        live_rows::rows(),
         word_rows::rows(),
         edit_rows::of_words(),
         service_rows::of_words(),

@@ -33,7 +33,8 @@ use Rattle.tsp_top.specs.PlannedChain.{chain_of, input_of, named_rules, output_n
 use Rattle.tsp_top.specs.PlannedTables.{AreTables, tables_asked}
 use Rattle.tsp_top.specs.Faults.{has_faults}
 use Rattle.tsp_top.specs.Printed.{reported_as}
-use Rattle.tsp_top.specs.StreamTheorem.{EndsRight, IsWrittenTo, Writes, Reports}
+use Rattle.chain_live.specs.LiveReports.{LiveLine, lines_below}
+use Rattle.tsp_top.specs.StreamTheorem.{EndsRight, IsWrittenTo, Writes, Reports, ReportsPart}
 use Rattle.tsp_top.specs.TspCall.{CallsPlan, CallsTsp}
 use Rattle.tsp_top.specs.Headline.{TellsInput, TellsTables, IsPureOrWants, IsPureOrEnds, IsDoneOrWants, EndsWell, SameButSizes, pure_status}
 use Rattle.tsp_top.specs.WantsMemory.{WantsMemoryFirst}
@@ -239,6 +240,11 @@ no-wish false false is = cc
 not-wanting : (general : GeneralConf) (faulty : Bool) (why : Cause) → status.NoMemory ≡ done_status general faulty why → ⊥
 not-wanting general faulty why is = no-wish (general.endless && is_plain_end why) (general.fail_on_faults && faulty) is
 
+-- to ask for files of tables reports nothing
+part-behind : (live bare : Bool) (lines : List LiveLine) (plan : Plan) (old new : DeskView) → ReportsPart live bare lines (tables_asked old plan) new → ReportsPart live bare lines old new
+part-behind false bare lines plan old new part = part
+part-behind true bare lines plan old new part = record { first = part.first; begins = part.begins; reported = part.reported }
+
 -- what is left where memory ran out, of plugins that take their room first
 module _ (plan : Plan) (tables : List (List (List ℕ))) (files : List (List ℕ × List ℕ)) (old new : DeskView) (tables_are : AreTables old plan.plugins tables) (files_are : IfSome old.files (λ told. files ≡ told))
     (preallocated : ArePreallocated plan.plugins) where
@@ -272,13 +278,24 @@ module _ (plan : Plan) (tables : List (List (List ℕ))) (files : List (List ℕ
   wants-first no_output tells first right writes reports = absurd (let e = tells.0 in cc)
   wants-first (ran cut why late) tells first right writes reports = absurd (not-done (has_faults (chain_of plan tables files) cut) why late (no-want plan why preallocated first) tells.0)
   wants-first (unreported cut why) tells first right writes reports =
-      (reports, inr (inr (record { tables = tables; tables_are = tables_are; files = files; files_are = files_are; cut = cut; why = why; no_want = no-want plan why preallocated first; pure_or_fault = right; written = writes })))
+      inr (record {
+        tables = tables;
+        tables_are = tables_are;
+        files = files;
+        files_are = files_are;
+        cut = cut;
+        why = why;
+        no_want = no-want plan why preallocated first;
+        pure_or_fault = right;
+        written = writes;
+        reported = part-behind plan.general.live plan.general.bare (lines_below (chain_of plan tables files) cut) plan old new reports;
+      })
   wants-first out_of_memory tells first right writes reports =
-      (reports, elim writes [ inl none ↦ inl none | inr empty ↦ inr (inl empty) ])
+      inl (reports, elim writes [ inl none ↦ inl none | inr empty ↦ inr empty ])
 
 -- nothing is left where only files of tables were asked for
 wants-at-once : (plan : Plan) (old new : DeskView) → new ≡ old → WantsMemoryFirst plan old new
-wants-at-once plan old new same = (
+wants-at-once plan old new same = inl (
   (ap (λ (d : DeskView). d.reported) same, ap (λ (d : DeskView). d.report_faults) same),
   inl (ap (λ (d : DeskView). d.outputs) same),
 )
@@ -290,7 +307,7 @@ planned-first plan old new answer preallocated (inl runs) want =
     (subst (λ (s : Status). StatusTellsCause plan (chain_of plan runs.tables t.files) (tables_asked old plan) new s t.end) want t.status_tells_cause) t.can_end t.pure_or_fault t.written t.reported
 planned-first plan old new answer preallocated (inr (inl ends)) want =
     absurd (ends-not-wanting (length ends.before + 1) ends.ends.2.end (sym want ∙ ends.ends.2.status_is))
-planned-first plan old new answer preallocated (inr (inr wants)) want = (
+planned-first plan old new answer preallocated (inr (inr wants)) want = inl (
   (ap (λ (d : DeskView). d.reported) wants.desk_is, ap (λ (d : DeskView). d.report_faults) wants.desk_is),
   inl (ap (λ (d : DeskView). d.outputs) wants.desk_is),
 )

@@ -3,6 +3,10 @@ pub mod ReportLemmas
 pub mod DeskLemmas
 pub mod PlanningLemmas
 pub mod RunLemmas
+pub mod Pieces
+pub mod LiveLemmas
+pub mod PrintedLemmas
+pub mod EndLemmas
 pub mod SinkLemmas
 pub mod SourceLemmas
 pub mod CutLemmas

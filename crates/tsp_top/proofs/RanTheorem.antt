@@ -38,20 +38,21 @@ use Rattle.ts_outside.specs.Told.{grown}
 use Rattle.ts_outside.specs.Desk.{DeskView}
 use Rattle.ts_outside.specs.Saying.{Says}
 use Rattle.ts_outside.specs.Entries.{asked_for, outputs_with}
-use Rattle.chain_run.specs.RunOf.{LeftInput, LeftOutput, RunOf}
+use Rattle.chain_run.specs.RunOf.{LeftInput, LeftOutput, RunBy}
+use Rattle.chain_live.specs.LiveReports.{LiveLine, lines_below}
 use Rattle.plugin_set.specs.Plugins.{preallocated_of}
 use Rattle.tsp_top.specs.CallOutcome.{ran, unreported, out_of_memory, run_status, status_of, FaultRose, LateRose}
 use Rattle.tsp_top.specs.CanEnd.{CanEndBy}
 use Rattle.tsp_top.specs.MemoryFirst.{TakesLater}
 use Rattle.tsp_top.specs.Openings.{asked_input, asked_output, input_closed_as, output_closed_as, OpensInput, OpensOutput, IsThrough, WasOpened}
 use Rattle.tsp_top.specs.PlannedChain.{chain_of, input_of, stuffing_of, users_of, named_rules, input_name, output_name}
-use Rattle.tsp_top.specs.Ran.{IsReady, RanEnds, RanOpened, closed_desk}
+use Rattle.tsp_top.specs.Ran.{IsReady, RanEnds, RanOpened, chain_over, closed_desk}
 use Rattle.tsp_top.specs.Faults.{faults_from, has_faults}
-use Rattle.tsp_top.specs.Printed.{reported_as, reports_asked}
+use Rattle.tsp_top.specs.Printed.{live_text, reported_as}
 use Rattle.tsp_top.specs.Readings.{ReadsTo}
-use Rattle.tsp_top.specs.Reported.{ReportsRun}
+use Rattle.tsp_top.specs.Reported.{ReportsAsked, StandsUnreported}
 use Rattle.tsp_top.specs.Sizes.{default_buffer}
-use Rattle.tsp_top.specs.StreamTheorem.{StreamTheorem, IsPureOrFault, IsCutPart, WritesTo}
+use Rattle.tsp_top.specs.StreamTheorem.{StreamTheorem, IsPureOrFault, IsCutPart, ReportsPart, WritesTo}
 use Rattle.tsp_top.specs.declared.status.Status.{Status}
 use Rattle.tsp_top.specs.declared.status.Status.TheVariants.{Done, NoMemory}
 use Rattle.tsp_top.specs.declared.status.Status.TheVariants as status
@@ -111,8 +112,8 @@ reported-theorem plan tables files old made new cut why late said st facts rose 
 
 -- a run for whose report there was no memory
 unreported-theorem : (plan : Plan) (tables : List (List (List ℕ))) (files : List (List ℕ × List ℕ)) (old new : DeskView) (cut : ℕ) (why : Cause) (st : Status)
-    → RanFacts plan tables files old new cut why → st ≡ NoMemory → new.reported ≡ old.reported → new.report_faults ≡ old.report_faults → StreamTheorem plan tables old new st
-unreported-theorem plan tables files old new cut why st facts told reported report_faults = record {
+    → RanFacts plan tables files old new cut why → st ≡ NoMemory → ReportsPart plan.general.live plan.general.bare (lines_below (chain_of plan tables files) cut) old new → StreamTheorem plan tables old new st
+unreported-theorem plan tables files old new cut why st facts told reported = record {
   end = unreported cut why;
   files = files;
   files_are = facts.files_are;
@@ -121,10 +122,26 @@ unreported-theorem plan tables files old new cut why st facts told reported repo
   pure_or_fault = facts.closes;
   reads = facts.reads;
   written = facts.written;
-  reported = (reported, report_faults);
+  reported = reported;
   opened = facts.asked;
   files_stay = facts.files_stay;
 }
+
+-- what stands reported where there was no memory for the whole report
+part-reported : (live bare : Bool) (lines : List LiveLine) (old made new : DeskView) → made.reported ≡ old.reported → made.report_faults ≡ old.report_faults
+    → StandsUnreported live bare lines made new → LeavesAll made new × ReportsPart live bare lines old new
+part-reported false bare lines old made new reported report_faults same = (
+  leaves-all made new same,
+  (ap (λ (v : DeskView). v.reported) same ∙ reported, ap (λ (v : DeskView). v.report_faults) same ∙ report_faults),
+)
+part-reported true bare lines old made new reported report_faults says = (
+  leaves-says made new (live_text bare says.first) says.failed says.said,
+  record {
+    first = says.first;
+    begins = says.begins;
+    reported = reports-text old made new (live_text bare says.first) says.failed reported report_faults says.said;
+  },
+)
 
 write-is-not-done : (why : Cause) → status_of why ≡ Done → why ≢ WriteFault
 write-is-not-done why done is = differ (sym (ap status_of is) ∙ done)
@@ -270,7 +287,7 @@ takes-later (item ∷ items) buffer zero less no_room = λ preallocated.
     no_room (subst S (sym (preallocated buffer)) enough)
 takes-later (item ∷ items) buffer (suc j) less no_room = takes-later items buffer j (omega arith) no_room
 
-module _ {S K P : Type 0} (see : Seeing S K P) (inner : S → SourceView) (plan : Plan) (tables : List (List (List ℕ))) (old made new : DeskView) (from made_from : InputPart S) (stuffing : Stuffing)
+module _ {S K P : Type 0} (see : Seeing S K P) (stands : Heard P → List Cell → ℕ → Type 0) (inner : S → SourceView) (plan : Plan) (tables : List (List (List ℕ))) (old made new : DeskView) (from made_from : InputPart S) (stuffing : Stuffing)
     (plugins : List (Heard P)) (to made_to : OutputPart K) (failed : Bool) (numbers : CorePlan) (closed : Closed)
     (opened : Opened see.source inner see.sink plan old made from to) (through : IsThrough see.source inner made_from)
     (ready : IsReady see.rule see.stands see.preallocated plan tables stuffing numbers plugins) where
@@ -283,7 +300,7 @@ module _ {S K P : Type 0} (see : Seeing S K P) (inner : S → SourceView) (plan 
   abbrev steps : Desks plan old made d2 d3
   steps = desks inner see.sink plan old made made_from made_to failed opened.asked
 
-  module _ (plugins_made : List (Heard P)) (run : RunOf see from made_from stuffing plugins plugins_made to made_to numbers closed) where
+  module _ (plugins_made : List (Heard P)) (run : RunBy see stands from made_from stuffing plugins plugins_made to made_to numbers closed) where
     abbrev own : List PluginRule
     own = map (heard_rule see) plugins
 
@@ -344,8 +361,12 @@ module _ {S K P : Type 0} (see : Seeing S K P) (inner : S → SourceView) (plan 
     }
 
     -- the text of the run's report is that of the plan's chain
-    report-same : reports_asked plan.general (named_rules plan.plugins tables) run.list closed.cut closed.cause ≡ reported_as plan.general (chain_of plan tables chosen.files) closed.cut closed.cause
-    report-same = ap (λ (l : StageList). reports_asked plan.general (named_rules plan.plugins tables) l closed.cut closed.cause) chosen.list_is
+    report-same : reported_as plan.general (chain_over plan tables run.list) closed.cut closed.cause ≡ reported_as plan.general (chain_of plan tables chosen.files) closed.cut closed.cause
+    report-same = ap (λ (l : StageList). reported_as plan.general (chain_over plan tables l) closed.cut closed.cause) chosen.list_is
+
+    -- and so are its lines
+    lines-same : lines_below (chain_over plan tables run.list) closed.cut ≡ lines_below (chain_of plan tables chosen.files) closed.cut
+    lines-same = ap (λ (l : StageList). lines_below (chain_over plan tables l) closed.cut) chosen.list_is
 
     -- and so are its faults
     faults-same : faults_from (rules_of (named_rules plan.plugins tables)) run.list closed.cut 0 (named_rules plan.plugins tables) ≡ has_faults (chain_of plan tables chosen.files) closed.cut
@@ -353,7 +374,7 @@ module _ {S K P : Type 0} (see : Seeing S K P) (inner : S → SourceView) (plan 
 
     -- a run that was closed, and then reported, or not where there was no memory for that
     ran-closed : (st : Status) → OnTrue failed (WasOpened made_to)
-        → ReportsRun plan.general (reports_asked plan.general (named_rules plan.plugins tables) run.list closed.cut closed.cause)
+        → ReportsAsked plan.general (reported_as plan.general (chain_over plan tables run.list) closed.cut closed.cause) (lines_below (chain_over plan tables run.list) closed.cut)
         (faults_from (rules_of (named_rules plan.plugins tables)) run.list closed.cut 0 (named_rules plan.plugins tables)) closed.cause failed d3 new st → StreamTheorem plan tables old new st
     ran-closed st closing (inl report) =
         let text : List ℕ = reported_as plan.general (chain_of plan tables chosen.files) closed.cut closed.cause in
@@ -364,24 +385,25 @@ module _ {S K P : Type 0} (see : Seeing S K P) (inner : S → SourceView) (plan 
         reported-theorem plan tables chosen.files old d3 new closed.cut closed.cause (failed || report.0) report.0 st facts late
         (report.2 ∙ ap (λ (faulty : Bool). run_status plan.general faulty closed.cause (failed || report.0)) faults-same) steps.reported steps.report_faults says
     ran-closed st closing (inr none) =
-        unreported-theorem plan tables chosen.files old new closed.cut closed.cause st (ran-facts (leaves-all d3 new none.1)) none.0
-        (ap (λ (v : DeskView). v.reported) none.1 ∙ steps.reported) (ap (λ (v : DeskView). v.report_faults) none.1 ∙ steps.report_faults)
+        let part = part-reported plan.general.live plan.general.bare (lines_below (chain_over plan tables run.list) closed.cut) old d3 new steps.reported steps.report_faults none.1 in
+        unreported-theorem plan tables chosen.files old new closed.cut closed.cause st (ran-facts part.0) none.0
+        (subst (λ (l : List LiveLine). ReportsPart plan.general.live plan.general.bare l old new) lines-same part.1)
 
 -- a run between two opened ends
-pub ran-theorem : {S K P : Type 0} (see : Seeing S K P) (inner : S → SourceView) (plan : Plan) (tables : List (List (List ℕ))) (stuffing : Stuffing) (numbers : CorePlan) (old made new : DeskView) (from : InputPart S) (plugins : List (Heard P)) (to : OutputPart K) (st : Status)
+pub ran-theorem : {S K P : Type 0} (see : Seeing S K P) (stands : Heard P → List Cell → ℕ → Type 0) (inner : S → SourceView) (plan : Plan) (tables : List (List (List ℕ))) (stuffing : Stuffing) (numbers : CorePlan) (old made new : DeskView) (from : InputPart S) (plugins : List (Heard P)) (to : OutputPart K) (st : Status)
     → made ≡ asked_output (asked_input old plan.input) plan.output
     → OpensInput see.source inner old plan.input from → OpensOutput see.sink (asked_input old plan.input) plan.output to
     → IsReady see.rule see.stands see.preallocated plan tables stuffing numbers plugins
-    → RanOpened see inner plan tables stuffing numbers made new from plugins to st
+    → RanOpened see stands inner plan tables stuffing numbers made new from plugins to st
     → StreamTheorem plan tables old new st
-ran-theorem {S} {K} {P} see inner plan tables stuffing numbers old made new from plugins to st is opens_in opens_out ready run =
+ran-theorem {S} {K} {P} see stands inner plan tables stuffing numbers old made new from plugins to st is opens_in opens_out ready run =
     ran-ends run.made_from run.made_to run.failed run.failed_opened run.through run.ends
   where
     ran-ends : (made_from : InputPart S) (made_to : OutputPart K) (failed : Bool) → OnTrue failed (WasOpened made_to) → IsThrough see.source inner made_from
-        → RanEnds see inner plan tables stuffing numbers made new from made_from plugins to made_to failed st → StreamTheorem plan tables old new st
+        → RanEnds see stands inner plan tables stuffing numbers made new from made_from plugins to made_to failed st → StreamTheorem plan tables old new st
     ran-ends made_from made_to failed closing through (inl closed) =
         let opened : Opened see.source inner see.sink plan old made from to = record { asked = is; input = opens_in; output = opens_out } in
-        ran-closed see inner plan tables old made new from made_from stuffing plugins to made_to failed numbers closed.0 opened through ready closed.1.made closed.1.run st closing closed.1.reported
+        ran-closed see stands inner plan tables old made new from made_from stuffing plugins to made_to failed numbers closed.0 opened through ready closed.1.made closed.1.run st closing closed.1.reported
     ran-ends made_from made_to failed closing through (inr none) =
         let opened : Opened see.source inner see.sink plan old made from to = record { asked = is; input = opens_in; output = opens_out } in
         let F : InputPart S → Type 0 = λ p. new ≡ closed_desk inner see.sink made p made_to failed in

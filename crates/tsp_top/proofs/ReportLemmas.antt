@@ -16,7 +16,7 @@ use Rattle.plugin_set.specs.Plugins.{name_of}
 use Rattle.chain_args.specs.declared.general_conf.GeneralConf.{GeneralConf}
 use Rattle.tsp_top.specs.CallOutcome.{run_status}
 use Rattle.tsp_top.specs.Faults.{faults_from}
-use Rattle.tsp_top.specs.Printed.{printed_from, printed_line, reports_asked}
+use Rattle.tsp_top.specs.Printed.{printed_by, printed_from, printed_line, reports_asked}
 use Rattle.tsp_top.specs.Reported.{ReachesCut}
 use Rattle.tsp_top.specs.declared.status.Status.{Status}
 
@@ -38,26 +38,26 @@ ReachesCut-split {P} stands plugins rest plugin cut j e reaches =
     )
 
 -- what plugins report begins with the lines of the first of them
-pub record ReportSplit {P : Type 0} (bare : Bool) (stands : P → List Cell → ℕ → Type 0) (rules : List PluginRule) (input : StageList)
+pub record ReportSplit {P : Type 0} (of : PluginRule → List Cell → List (List ℕ)) (bare : Bool) (stands : P → List Cell → ℕ → Type 0) (rules : List PluginRule) (input : StageList)
     (rest : List P) (items later : List PluginItem) (tables : List (List (List ℕ))) (name : List ℕ) (j cut : ℕ) (lines : List (List ℕ)) : Type 0 where
-  pub said : printed_from bare rules input cut j (named_rules items tables)
-      ≡ flat_map (printed_line bare (j + 1) name) lines ++ printed_from bare rules input cut (j + 1) (named_rules later (later_tables tables))
+  pub said : printed_by of bare rules input cut j (named_rules items tables)
+      ≡ flat_map (printed_line bare (j + 1) name) lines ++ printed_by of bare rules input cut (j + 1) (named_rules later (later_tables tables))
   pub met : AllMetTo stands rules input cut (j + 1) rest
 
-report-of-cons : {P : Type 0} (bare : Bool) (rule : P → PluginRule) (stands : P → List Cell → ℕ → Type 0) (rules : List PluginRule) (input : StageList)
+report-of-cons : {P : Type 0} (of : PluginRule → List Cell → List (List ℕ)) (bare : Bool) (rule : P → PluginRule) (stands : P → List Cell → ℕ → Type 0) (rules : List PluginRule) (input : StageList)
     (rest : List P) (plugin : P) (item : PluginItem) (later : List PluginItem) (tables : List (List (List ℕ))) (j cut : ℕ) (lines : List (List ℕ))
     → AllMetTo stands rules input cut j (plugin ∷ rest) → rule plugin ≡ rule_of_item item (first_table tables)
-    → ((history : List Cell) (mark : ℕ) → stands plugin history mark → mark ≤ cut → cut ≤ length history → lines ≡ said_of (rule plugin) (take cut history))
-    → ReportSplit bare stands rules input rest (item ∷ later) later tables (name_of item.conf) j cut lines
-report-of-cons bare rule stands rules input rest plugin item later tables j cut lines met same says =
+    → ((history : List Cell) (mark : ℕ) → stands plugin history mark → mark ≤ cut → cut ≤ length history → lines ≡ of (rule plugin) (take cut history))
+    → ReportSplit of bare stands rules input rest (item ∷ later) later tables (name_of item.conf) j cut lines
+report-of-cons of bare rule stands rules input rest plugin item later tables j cut lines met same says =
     let met_list : List Cell = take cut (stage_list rules input j).cells in
-    let own : lines ≡ said_of (rule_of_item item (first_table tables)) met_list =
-    says met.0.history met.0.mark met.0.holds met.0.told met.0.reach ∙ ap (said_of (rule plugin)) met.0.same ∙ ap (λ (r : PluginRule). said_of r met_list) same in
+    let own : lines ≡ of (rule_of_item item (first_table tables)) met_list =
+    says met.0.history met.0.mark met.0.holds met.0.told met.0.reach ∙ ap (of (rule plugin)) met.0.same ∙ ap (λ (r : PluginRule). of r met_list) same in
     let B : ℕ → Type 0 = λ k. AllMetTo stands rules input cut k rest in
     let behind : List NamedRule = named_rules later (later_tables tables) in
     record {
-      said = ap (λ texts. flat_map (printed_line bare (suc j) (name_of item.conf)) texts ++ printed_from bare rules input cut (suc j) behind) (sym own)
-          ∙ ap (λ k. flat_map (printed_line bare k (name_of item.conf)) lines ++ printed_from bare rules input cut k behind) (sym (add-one j));
+      said = ap (λ texts. flat_map (printed_line bare (suc j) (name_of item.conf)) texts ++ printed_by of bare rules input cut (suc j) behind) (sym own)
+          ∙ ap (λ k. flat_map (printed_line bare k (name_of item.conf)) lines ++ printed_by of bare rules input cut k behind) (sym (add-one j));
       met = subst B (sym (add-one j)) met.1;
     }
 
@@ -74,16 +74,16 @@ rules-of-cons : {P : Type 0} (rule : P → PluginRule) (plugins rest : List P) (
 rules-of-cons {P} rule plugins rest plugin items later item tables e f same =
     sym (ap (λ (l : List P). map rule l) e) ∙ same ∙ ap (λ (l : List PluginItem). rules_of (named_rules l tables)) f
 
-pub report-split : {P : Type 0} (bare : Bool) (rule : P → PluginRule) (stands : P → List Cell → ℕ → Type 0) (rules : List PluginRule) (input : StageList)
+pub report-split : {P : Type 0} (of : PluginRule → List Cell → List (List ℕ)) (bare : Bool) (rule : P → PluginRule) (stands : P → List Cell → ℕ → Type 0) (rules : List PluginRule) (input : StageList)
     (plugins rest : List P) (plugin : P) (items later : List PluginItem) (item : PluginItem) (tables : List (List (List ℕ))) (j cut : ℕ) (lines : List (List ℕ))
     → plugins ≡ plugin ∷ rest → items ≡ item ∷ later → map rule plugins ≡ rules_of (named_rules items tables) → AllMetTo stands rules input cut j plugins
-    → ((history : List Cell) (mark : ℕ) → stands plugin history mark → mark ≤ cut → cut ≤ length history → lines ≡ said_of (rule plugin) (take cut history))
-    → ReportSplit bare stands rules input rest items later tables (name_of item.conf) j cut lines
-report-split {P} bare rule stands rules input plugins rest plugin items later item tables j cut lines e f same met says =
+    → ((history : List Cell) (mark : ℕ) → stands plugin history mark → mark ≤ cut → cut ≤ length history → lines ≡ of (rule plugin) (take cut history))
+    → ReportSplit of bare stands rules input rest items later tables (name_of item.conf) j cut lines
+report-split {P} of bare rule stands rules input plugins rest plugin items later item tables j cut lines e f same met says =
     let M : List P → Type 0 = λ l. AllMetTo stands rules input cut j l in
-    let B : List PluginItem → Type 0 = λ l. ReportSplit bare stands rules input rest l later tables (name_of item.conf) j cut lines in
+    let B : List PluginItem → Type 0 = λ l. ReportSplit of bare stands rules input rest l later tables (name_of item.conf) j cut lines in
     subst B (sym f)
-    (report-of-cons bare rule stands rules input rest plugin item later tables j cut lines (subst M e met)
+    (report-of-cons of bare rule stands rules input rest plugin item later tables j cut lines (subst M e met)
     (first-same (rule plugin) (rule_of_item item (first_table tables)) (map rule rest) (rules_of (named_rules later (later_tables tables)))
     (rules-of-cons rule plugins rest plugin items later item tables e f same)) says)
 

@@ -9,7 +9,9 @@ use Rattle.chain_model.specs.declared.cause.Cause.TheVariants as cause
 use Rattle.chain_args.specs.declared.general_conf.GeneralConf.{GeneralConf}
 use Rattle.chain_args.specs.declared.stage_threads.StageThreads.TheVariants.{Auto}
 use Rattle.tsp_top.specs.CallOutcome.{run_status, status_of}
-use Rattle.tsp_top.specs.Printed.{printed_line, reports_asked}
+use Rattle.chain_model.specs.PureRun.{Chain, reported_at}
+use Rattle.chain_live.specs.LiveReports.{LiveLine, live_reported}
+use Rattle.tsp_top.specs.Printed.{live_text, printed_line, reported_as, reports_asked}
 use Rattle.tsp_top.specs.Sizes.{lesser_batch}
 use Rattle.tsp_top.specs.declared.status.Status.TheVariants.{Done, WriteFault, Sync, InputEnded, FaultFound}
 
@@ -39,6 +41,7 @@ asked bare endless fail_on_faults = record {
   bare = bare;
   endless = endless;
   fail_on_faults = fail_on_faults;
+  live = false;
   threads = Auto;
 }
 
@@ -88,3 +91,17 @@ bare-line = refl
 whole-line : printed_line false 3 (codes "count") (codes "total 5") ≡ codes "[3] count: total 5" ++ 10 ∷ []
 unfolding digits
 whole-line = refl
+
+-- without `--live` the report is that of the plugins one after another, with it the live one
+after-the-run : (chain : Chain) (cut : ℕ) (why : Cause) → reported_as (asked false false false) chain cut why ≡ reported_at chain cut why
+after-the-run chain cut why = refl
+
+while-it-goes : (chain : Chain) (cut : ℕ) (why : Cause) → reported_as (record (asked false false false) { live = true }) chain cut why ≡ live_reported chain cut why
+while-it-goes chain cut why = refl
+
+-- two bare lines of one round
+abbrev line : ℕ → ℕ → LiveLine
+line at plugin = record { at = at; plugin = plugin; name = codes "count"; text = codes "total 5" }
+
+two-lines : live_text true (line 7 1 ∷ line 7 3 ∷ []) ≡ (codes "total 5" ++ 10 ∷ []) ++ (codes "total 5" ++ 10 ∷ [])
+two-lines = refl

@@ -11,9 +11,10 @@ use Rattle.stage_run.specs.declared.input_part.InputPart.{InputPart}
 use Rattle.stage_run.specs.declared.output_part.OutputPart.{OutputPart}
 use Rattle.stage_run.specs.declared.stuffing.Stuffing.{Stuffing}
 use Rattle.plugin_trait.specs.declared.heard.Heard.{Heard}
-use Rattle.stage_run.specs.Seeing.{Seeing, heard_rule, heard_stands}
+use Rattle.stage_run.specs.Seeing.{Seeing, heard_rule}
 use Rattle.chain_run.specs.Met.{AllMetTo}
-use Rattle.chain_run.specs.RunOf.{RunOf}
+use Rattle.ts_packet.specs.declared.cell.Cell.{Cell}
+use Rattle.chain_run.specs.RunOf.{RunBy}
 use Rattle.chain_run.proofs.RunUses.{met-to}
 use Rattle.std.proofs.lemmas.List.{length-map}
 use Rattle.plugin_set.specs.declared.plugin_item.PluginItem.{PluginItem}
@@ -48,48 +49,48 @@ reports-run-same general text said faulty known why f failed a old new status e1
     subst D e4 (subst C e3 (subst B e2 (subst A e1 h)))
 
 -- the plugins of a closed run met the cells before its cut, as plugins of their own rules
-pub run-met : {S K P : Type 0} (see : Seeing S K P) (from made_from : InputPart S) (stuffing : Stuffing) (plugins made : List (Heard P))
+pub run-met : {S K P : Type 0} (see : Seeing S K P) (stands : Heard P → List Cell → ℕ → Type 0) (from made_from : InputPart S) (stuffing : Stuffing) (plugins made : List (Heard P))
     (to made_to : OutputPart K) (core : CorePlan) (closed : Closed)
-    → (run : RunOf see from made_from stuffing plugins made to made_to core closed) → AllMetTo (heard_stands see) (map (heard_rule see) made) run.list closed.cut 0 made
-run-met see from made_from stuffing plugins made to made_to core closed run =
-    let M : List PluginRule → Type 0 = λ rules. AllMetTo (heard_stands see) rules run.list closed.cut 0 made in
-    subst M (sym run.rules) (met-to (heard_stands see) (map (heard_rule see) plugins) run.list run.gave closed.cut 0 made run.met)
+    → (run : RunBy see stands from made_from stuffing plugins made to made_to core closed) → AllMetTo stands (map (heard_rule see) made) run.list closed.cut 0 made
+run-met see stands from made_from stuffing plugins made to made_to core closed run =
+    let M : List PluginRule → Type 0 = λ rules. AllMetTo stands rules run.list closed.cut 0 made in
+    subst M (sym run.rules) (met-to stands (map (heard_rule see) plugins) run.list run.gave closed.cut 0 made run.met)
 
 -- so they reach it
-pub run-reaches : {S K P : Type 0} (see : Seeing S K P) (from made_from : InputPart S) (stuffing : Stuffing) (plugins made : List (Heard P))
+pub run-reaches : {S K P : Type 0} (see : Seeing S K P) (stands : Heard P → List Cell → ℕ → Type 0) (from made_from : InputPart S) (stuffing : Stuffing) (plugins made : List (Heard P))
     (to made_to : OutputPart K) (core : CorePlan) (closed : Closed)
-    → RunOf see from made_from stuffing plugins made to made_to core closed → ReachesCut (heard_stands see) made closed.cut 0
-run-reaches see from made_from stuffing plugins made to made_to core closed run = record {
+    → RunBy see stands from made_from stuffing plugins made to made_to core closed → ReachesCut stands made closed.cut 0
+run-reaches see stands from made_from stuffing plugins made to made_to core closed run = record {
   rules = map (heard_rule see) made;
   input = run.list;
-  met = run-met see from made_from stuffing plugins made to made_to core closed run;
+  met = run-met see stands from made_from stuffing plugins made to made_to core closed run;
 }
 
 -- the plugins that a run returns have the rules of the settings still
-pub ends-rules : {S K P : Type 0} (see : Seeing S K P) (stuffing : Stuffing) (core : CorePlan) (from made_from : InputPart S) (plugins made : List (Heard P))
+pub ends-rules : {S K P : Type 0} (see : Seeing S K P) (stands : Heard P → List Cell → ℕ → Type 0) (stuffing : Stuffing) (core : CorePlan) (from made_from : InputPart S) (plugins made : List (Heard P))
     (to made_to : OutputPart K) (closed : Result Closed AllocError) (rules : List PluginRule)
-    → EndsRun see stuffing core from made_from plugins made to made_to closed → map (heard_rule see) plugins ≡ rules → map (heard_rule see) made ≡ rules
-ends-rules see stuffing core from made_from plugins made to made_to (Ok closed) rules ends are = ends.run.rules ∙ are
-ends-rules see stuffing core from made_from plugins made to made_to (Err e) rules ends are =
+    → EndsRun see stands stuffing core from made_from plugins made to made_to closed → map (heard_rule see) plugins ≡ rules → map (heard_rule see) made ≡ rules
+ends-rules see stands stuffing core from made_from plugins made to made_to (Ok closed) rules ends are = ends.run.rules ∙ are
+ends-rules see stands stuffing core from made_from plugins made to made_to (Err e) rules ends are =
     ap (λ (l : List _). map (heard_rule see) l) ends.never_began.plugins_same ∙ are
 
 -- and they reach its cut, if it was closed
-pub ends-reach : {S K P : Type 0} (see : Seeing S K P) (stuffing : Stuffing) (core : CorePlan) (from made_from : InputPart S) (plugins made : List (Heard P))
+pub ends-reach : {S K P : Type 0} (see : Seeing S K P) (stands : Heard P → List Cell → ℕ → Type 0) (stuffing : Stuffing) (core : CorePlan) (from made_from : InputPart S) (plugins made : List (Heard P))
     (to made_to : OutputPart K) (closed : Result Closed AllocError)
-    → EndsRun see stuffing core from made_from plugins made to made_to closed → IfOk closed (λ closed. ReachesCut (heard_stands see) made closed.cut 0)
-ends-reach see stuffing core from made_from plugins made to made_to (Ok closed) ends = run-reaches see from made_from stuffing plugins made to made_to core closed ends.run
-ends-reach see stuffing core from made_from plugins made to made_to (Err e) ends = tt
+    → EndsRun see stands stuffing core from made_from plugins made to made_to closed → IfOk closed (λ closed. ReachesCut stands made closed.cut 0)
+ends-reach see stands stuffing core from made_from plugins made to made_to (Ok closed) ends = run-reaches see stands from made_from stuffing plugins made to made_to core closed ends.run
+ends-reach see stands stuffing core from made_from plugins made to made_to (Err e) ends = tt
 
 -- a run gives as many plugins back as its plan has, at most 62
 length-named_rules : (items : List PluginItem) (tables : List (List (List ℕ))) → length (rules_of (named_rules items tables)) ≡ length items
 length-named_rules [] tables = refl
 length-named_rules (item ∷ items) tables = ap suc (length-named_rules items (later_tables tables))
 
-pub ends-few : {S K P : Type 0} (see : Seeing S K P) (stuffing : Stuffing) (core : CorePlan) (from made_from : InputPart S) (plugins made : List (Heard P))
+pub ends-few : {S K P : Type 0} (see : Seeing S K P) (stands : Heard P → List Cell → ℕ → Type 0) (stuffing : Stuffing) (core : CorePlan) (from made_from : InputPart S) (plugins made : List (Heard P))
     (to made_to : OutputPart K) (closed : Result Closed AllocError) (plan : Plan) (tables : List (List (List ℕ)))
-    → EndsRun see stuffing core from made_from plugins made to made_to closed → IsReady see.rule see.stands see.preallocated plan tables stuffing core plugins → length made ≤ 62
-ends-few see stuffing core from made_from plugins made to made_to closed plan tables ends ready =
-    let rules = ends-rules see stuffing core from made_from plugins made to made_to closed (rules_of (named_rules plan.plugins tables)) ends ready.rules in
+    → EndsRun see stands stuffing core from made_from plugins made to made_to closed → IsReady see.rule see.stands see.preallocated plan tables stuffing core plugins → length made ≤ 62
+ends-few see stands stuffing core from made_from plugins made to made_to closed plan tables ends ready =
+    let rules = ends-rules see stands stuffing core from made_from plugins made to made_to closed (rules_of (named_rules plan.plugins tables)) ends ready.rules in
     let count : length made ≡ length plan.plugins =
     sym (length-map made (heard_rule see)) ∙ ap (λ (l : List PluginRule). length l) rules ∙ length-named_rules plan.plugins tables in
     let few : core.plugins ≤ 62 = ready.numbers_are.valid.plugins in

@@ -9,6 +9,8 @@ pub mod Openings
 pub mod PlannedChain
 pub mod PlannedTables
 pub mod Printed
+pub mod Printing
+pub mod LiveEnds
 pub mod Ran
 pub mod Readings
 pub mod Refusals

@@ -1,5 +1,7 @@
--- The report of a run as the general options ask for it: with or without the plugins' numbers and names. This project's own rule.
+-- The report of a run as the general options ask for it: with or without the plugins' numbers and names, and in the order of
+-- plugins or, with `--live`, in that of packets. This project's own rule.
 use Rattle.std.specs.Prelude.{ℕ, suc, Bool, true, List, [], ◌∷◌, ◌++◌, take, if◌then◌else◌}
+use Rattle.ts_packet.specs.declared.cell.Cell.{Cell}
 use Rattle.std.specs.List.{flat_map}
 use Rattle.chain_args.specs.declared.general_conf.GeneralConf.{GeneralConf}
 use Rattle.chain_model.specs.PluginRule.{PluginRule}
@@ -7,24 +9,54 @@ use Rattle.chain_model.specs.Apply.{StageList}
 use Rattle.chain_model.specs.StageLists.{stage_list}
 use Rattle.chain_model.specs.declared.cause.Cause.{Cause}
 use Rattle.chain_model.specs.Reports.{NamedRule, plugin_line, said_of, rules_of, reports}
-use Rattle.chain_model.specs.PureRun.{Chain}
+use Rattle.chain_model.specs.PureRun.{Chain, chain_rules}
+use Rattle.chain_live.specs.LiveReports.{LiveLine, lines_below, live_reported}
 
 -- a line of plugin `j` as it is printed, bare or not: its text alone, or behind the plugin's number and name
 abbrev pub printed_line : Bool → ℕ → List ℕ → List ℕ → List ℕ
 printed_line bare j name text = if bare then text ++ 10 ∷ [] else plugin_line j name text
 
--- what is printed of plugin `j` and those after it: each over the first `m` cells of the list that it meets
+-- what `said` gives of plugin `j` and of those after it, as it is printed: each over the first `m` cells of the list that it
+-- meets
+abbrev pub printed_by : (PluginRule → List Cell → List (List ℕ)) → Bool → List PluginRule → StageList → ℕ → ℕ
+    → List NamedRule → List ℕ
+printed_by said bare rules input m j [] = []
+printed_by said bare rules input m j (plugin ∷ rest) =
+    flat_map (printed_line bare (suc j) plugin.name) (said plugin.rule (take m (stage_list rules input j).cells))
+    ++ printed_by said bare rules input m (suc j) rest
+
+-- all that these plugins report
 abbrev pub printed_from : Bool → List PluginRule → StageList → ℕ → ℕ → List NamedRule → List ℕ
-printed_from bare rules input m j [] = []
-printed_from bare rules input m j (plugin ∷ rest) =
-    flat_map (printed_line bare (suc j) plugin.name) (said_of plugin.rule (take m (stage_list rules input j).cells))
-    ++ printed_from bare rules input m (suc j) rest
+printed_from = printed_by said_of
+
+-- their summaries alone
+abbrev pub summary_said : PluginRule → List Cell → List (List ℕ)
+summary_said rule cells = rule.summary_of cells
+
+abbrev pub summaries_printed : Bool → List PluginRule → StageList → ℕ → ℕ → List NamedRule → List ℕ
+summaries_printed = printed_by summary_said
 
 -- what is reported of a run that was cut at `m` for this cause: with `--bare` the lines alone, and no line for the end
 abbrev pub reports_asked : GeneralConf → List NamedRule → StageList → ℕ → Cause → List ℕ
 reports_asked general plugins input m cause =
     if general.bare then printed_from true (rules_of plugins) input m 0 plugins else reports plugins input m cause
 
--- the same of a chain
+-- lines as they are printed while the run goes, bare or not
+abbrev pub live_line : Bool → LiveLine → List ℕ
+live_line bare line = printed_line bare line.plugin line.name line.text
+
+abbrev pub live_text : Bool → List LiveLine → List ℕ
+live_text bare lines = flat_map (live_line bare) lines
+
+-- what is reported with `--live` of a run of a chain that was cut at `m` for this cause: the lines in the order of packets, then
+-- the summaries, then the line for the end; with `--bare` the lines alone, and no line for the end
+abbrev pub live_asked : Bool → Chain → ℕ → Cause → List ℕ
+live_asked bare chain m cause =
+    if bare then live_text true (lines_below chain m) ++ summaries_printed true (chain_rules chain) chain.input m 0 chain.plugins
+    else live_reported chain m cause
+
+-- what is reported of a run of a chain, as the general options ask
 abbrev pub reported_as : GeneralConf → Chain → ℕ → Cause → List ℕ
-reported_as general chain m cause = reports_asked general chain.plugins chain.input m cause
+reported_as general chain m cause =
+    if general.live then live_asked general.bare chain m cause
+    else reports_asked general chain.plugins chain.input m cause

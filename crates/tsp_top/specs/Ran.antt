@@ -20,16 +20,19 @@ use Rattle.stage_run.specs.InputStands as stage
 use Rattle.stage_run.specs.Parts.{IsUnused}
 use Rattle.stage_run.specs.Seeing.{Seeing}
 use Rattle.chain_run.specs.Fresh.{AreFresh}
-use Rattle.chain_run.specs.RunOf.{RunOf, NeverBegan}
+use Rattle.chain_run.specs.RunOf.{RunBy, NeverBegan}
+use Rattle.chain_model.specs.Apply.{StageList}
+use Rattle.chain_model.specs.PureRun.{Chain}
+use Rattle.chain_live.specs.LiveReports.{lines_below}
 use Rattle.plugin_set.specs.Plugins.{preallocated_of}
 use Rattle.tsp_top.specs.ByPlugin.{by_plugin}
-use Rattle.tsp_top.specs.PlannedChain.{stuffing_of, named_rules}
+use Rattle.tsp_top.specs.PlannedChain.{stuffing_of, named_rules, users_of}
 use Rattle.tsp_top.specs.PlannedTables.{AreTables, tables_asked}
 use Rattle.tsp_top.specs.PlannedCore.{IsPlannedCore}
 use Rattle.tsp_top.specs.Openings.{asked_input, asked_output, OpensInput, OpensOutput, IsThrough, input_closed_as, output_closed_as, WasOpened}
 use Rattle.tsp_top.specs.Faults.{faults_from}
-use Rattle.tsp_top.specs.Printed.{reports_asked}
-use Rattle.tsp_top.specs.Reported.{ReportsRun}
+use Rattle.tsp_top.specs.Printed.{reported_as}
+use Rattle.tsp_top.specs.Reported.{ReportsAsked}
 use Rattle.tsp_top.specs.declared.status.Status.{Status}
 use Rattle.tsp_top.specs.declared.status.Status.TheVariants.{NoMemory}
 
@@ -70,21 +73,31 @@ OpensPlan see inner plan numbers old made from stuffing plugins to =
     (tables : List (List (List ℕ))) × AreTables old plan.plugins tables
     × IsOpened see inner plan tables numbers (tables_asked old plan) made from stuffing plugins to
 
--- what every run ensures, whoever serves the stages: it was closed, or there was no memory for it
-pub record EndsRun {S K P : Type 0} (see : Seeing S K P) (stuffing : Stuffing) (numbers : CorePlan)
+-- what every run ensures, whoever serves the stages: it was closed, or there was no memory for it; `stands` says what each plugin
+-- that came back stands for, here and below
+pub record EndsRun {S K P : Type 0} (see : Seeing S K P) (stands : Heard P → List Cell → ℕ → Type 0) (stuffing : Stuffing) (numbers : CorePlan)
     (from made_from : InputPart S) (plugins made : List (Heard P)) (to made_to : OutputPart K)
     (closed : Result Closed AllocError) : Type 0 where
-  pub run : IfOk closed (λ closed. RunOf see from made_from stuffing plugins made to made_to numbers closed)
+  pub run : IfOk closed (λ closed. RunBy see stands from made_from stuffing plugins made to made_to numbers closed)
   pub never_began : OnErr closed (NeverBegan from made_from plugins made to made_to)
 
+-- the chain of a plan over this list of its input
+abbrev pub chain_over : Plan → List (List (List ℕ)) → StageList → Chain
+chain_over plan tables input = record {
+  input = input;
+  plugins = named_rules plan.plugins tables;
+  users = users_of plan;
+}
+
 -- a run that was closed and reported, or closed only, where there was no memory for its report
-pub record RanClosed {S K P : Type 0} (see : Seeing S K P) (inner : S → SourceView)
+pub record RanClosed {S K P : Type 0} (see : Seeing S K P) (stands : Heard P → List Cell → ℕ → Type 0) (inner : S → SourceView)
     (plan : Plan) (tables : List (List (List ℕ))) (stuffing : Stuffing) (numbers : CorePlan) (old new : DeskView)
     (from made_from : InputPart S) (plugins : List (Heard P)) (to made_to : OutputPart K)
     (failed : Bool) (status : Status) (closed : Closed) : Type 0 where
   pub made : List (Heard P)
-  pub run : RunOf see from made_from stuffing plugins made to made_to numbers closed
-  pub reported : ReportsRun plan.general (reports_asked plan.general (named_rules plan.plugins tables) run.list closed.cut closed.cause)
+  pub run : RunBy see stands from made_from stuffing plugins made to made_to numbers closed
+  pub reported : ReportsAsked plan.general (reported_as plan.general (chain_over plan tables run.list) closed.cut closed.cause)
+      (lines_below (chain_over plan tables run.list) closed.cut)
       (faults_from (rules_of (named_rules plan.plugins tables)) run.list closed.cut 0 (named_rules plan.plugins tables))
       closed.cause failed (closed_desk inner see.sink old made_from made_to failed) new status
 
@@ -98,16 +111,16 @@ pub record NotRun {S K P : Type 0} (see : Seeing S K P) (inner : S → SourceVie
   pub desk : new ≡ closed_desk inner see.sink old made_from made_to failed
 
 -- one of the two
-abbrev pub RanEnds : {S K P : Type 0} → Seeing S K P → (S → SourceView) → Plan → List (List (List ℕ)) → Stuffing → CorePlan → DeskView
+abbrev pub RanEnds : {S K P : Type 0} → Seeing S K P → (Heard P → List Cell → ℕ → Type 0) → (S → SourceView) → Plan → List (List (List ℕ)) → Stuffing → CorePlan → DeskView
     → DeskView
     → InputPart S → InputPart S → List (Heard P) → OutputPart K → OutputPart K → Bool → Status → Type 0
-RanEnds see inner plan tables stuffing numbers old new from made_from plugins to made_to failed status =
+RanEnds see stands inner plan tables stuffing numbers old new from made_from plugins to made_to failed status =
     ((closed : Closed)
-    × RanClosed see inner plan tables stuffing numbers old new from made_from plugins to made_to failed status closed)
+    × RanClosed see stands inner plan tables stuffing numbers old new from made_from plugins to made_to failed status closed)
     ⊎ NotRun see inner old new from made_from to made_to failed status
 
 -- the chain ran, both ends were closed, and the run was reported; or there was no memory for the run
-pub record RanOpened {S K P : Type 0} (see : Seeing S K P) (inner : S → SourceView)
+pub record RanOpened {S K P : Type 0} (see : Seeing S K P) (stands : Heard P → List Cell → ℕ → Type 0) (inner : S → SourceView)
     (plan : Plan) (tables : List (List (List ℕ))) (stuffing : Stuffing) (numbers : CorePlan) (old new : DeskView)
     (from : InputPart S) (plugins : List (Heard P)) (to : OutputPart K) (status : Status) : Type 0 where
   pub made_from : InputPart S
@@ -117,4 +130,4 @@ pub record RanOpened {S K P : Type 0} (see : Seeing S K P) (inner : S → Source
   pub failed_opened : OnTrue failed (WasOpened made_to)
   -- what is left of the input's packets is that of its file
   pub through : IsThrough see.source inner made_from
-  pub ends : RanEnds see inner plan tables stuffing numbers old new from made_from plugins to made_to failed status
+  pub ends : RanEnds see stands inner plan tables stuffing numbers old new from made_from plugins to made_to failed status

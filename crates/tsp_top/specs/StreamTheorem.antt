@@ -1,5 +1,5 @@
 -- The stream theorem: what a call of `tsp` reads, writes, reports, opens and returns. This project's own rule.
-use Rattle.std.specs.Prelude.{◌≡◌, ◌⊎◌, ℕ, List, [], ◌∷◌, ◌++◌, take, drop, codes, true, false, IfSome}
+use Rattle.std.specs.Prelude.{◌≡◌, ◌⊎◌, ℕ, List, [], ◌∷◌, ◌++◌, take, drop, codes, Bool, true, false, IfSome}
 use Rattle.chain_model.specs.Prefix.{IsPrefix}
 use Rattle.chain_model.specs.StageLists.{end_list}
 use Rattle.chain_model.specs.Cut.{IsValidFault, IsPureClose}
@@ -17,7 +17,8 @@ use Rattle.chain_model.specs.Written.{IsPartOfFirst}
 use Rattle.tsp_top.specs.CallOutcome.{CallOutcome, no_input, no_output, ran, unreported, out_of_memory, StatusTellsCause}
 use Rattle.tsp_top.specs.CanEnd.{CanEnd}
 use Rattle.tsp_top.specs.PlannedChain.{chain_of, input_name, output_name}
-use Rattle.tsp_top.specs.Printed.{reported_as}
+use Rattle.chain_live.specs.LiveReports.{LiveLine, lines_below}
+use Rattle.tsp_top.specs.Printed.{live_text, reported_as}
 use Rattle.tsp_top.specs.Readings.{ReadsNothing, ReadsTo}
 use Rattle.tsp_top.specs.declared.status.Status.{Status}
 
@@ -67,12 +68,24 @@ Reads plan files old new (ran cut why late) = ReadsTo plan.general plan.input fi
 Reads plan files old new (unreported cut why) = ReadsTo plan.general plan.input files old new cut why
 Reads plan files old new out_of_memory = ReadsNothing plan.input files old new
 
+-- the first of these lines are reported, or a first part of their text where a report failed
+pub record ReportsFirst (bare : Bool) (lines : List LiveLine) (old new : DeskView) : Type 0 where
+  pub first : List LiveLine
+  pub begins : IsPrefix first lines
+  pub reported : ReportsText old new (live_text bare first)
+
+-- what is reported where there was no memory for the whole report: nothing, or with `--live` the first of these lines
+abbrev pub ReportsPart : Bool → Bool → List LiveLine → DeskView → DeskView → Type 0
+ReportsPart false bare lines old new = ReportsNothing old new
+ReportsPart true bare lines old new = ReportsFirst bare lines old new
+
 -- what is reported
 abbrev pub Reports : Plan → Chain → DeskView → DeskView → CallOutcome → Type 0
 Reports plan chain old new no_input = ReportsText old new (codes "tsp: cannot open input" ++ 10 ∷ [])
 Reports plan chain old new no_output = ReportsText old new (codes "tsp: cannot open output" ++ 10 ∷ [])
 Reports plan chain old new (ran cut why late) = ReportsText old new (reported_as plan.general chain cut why)
-Reports plan chain old new (unreported cut why) = ReportsNothing old new
+Reports plan chain old new (unreported cut why) =
+    ReportsPart plan.general.live plan.general.bare (lines_below chain cut) old new
 Reports plan chain old new out_of_memory = ReportsNothing old new
 
 -- what is opened: first the input, then the output, and each went well but the last where the call says so

@@ -8,7 +8,8 @@ use Rattle.ts_outside.specs.Entries.{outputs_with}
 use Rattle.tsp_top.specs.MemoryFirst.{NoStageWants}
 use Rattle.tsp_top.specs.PlannedChain.{chain_of, output_name}
 use Rattle.tsp_top.specs.PlannedTables.{AreTables}
-use Rattle.tsp_top.specs.StreamTheorem.{IsPureOrFault, WritesTo}
+use Rattle.tsp_top.specs.CallOutcome.{unreported}
+use Rattle.tsp_top.specs.StreamTheorem.{IsPureOrFault, Reports, WritesTo}
 
 -- the run wrote all that its cut and cause say, and no stage ran out of memory: only the report did
 pub record WroteUnreported (plan : Plan) (old new : DeskView) : Type 0 where
@@ -21,10 +22,13 @@ pub record WroteUnreported (plan : Plan) (old new : DeskView) : Type 0 where
   pub no_want : NoStageWants why
   pub pure_or_fault : IsPureOrFault (chain_of plan tables files) cut why
   pub written : WritesTo plan (chain_of plan tables files) old new cut why
+  -- nothing is reported, or with `--live` the first lines
+  pub reported : Reports plan (chain_of plan tables files) old new (unreported cut why)
 
--- nothing is reported; and no output was closed, or an empty one, or one with all that the run wrote
+-- nothing is reported, and no output was closed, or an empty one; or one was closed with all that the run wrote, and nothing is
+-- reported or, with `--live`, the first lines
 abbrev pub WantsMemoryFirst : Plan → DeskView → DeskView → Type 0
 WantsMemoryFirst plan old new =
-    ReportsNothing old new
-    × ((new.outputs ≡ old.outputs)
-    ⊎ ((new.outputs ≡ outputs_with (output_name plan.output) old.outputs []) ⊎ WroteUnreported plan old new))
+    (ReportsNothing old new
+    × ((new.outputs ≡ old.outputs) ⊎ (new.outputs ≡ outputs_with (output_name plan.output) old.outputs [])))
+    ⊎ WroteUnreported plan old new

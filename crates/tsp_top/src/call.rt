@@ -1,5 +1,5 @@
 //! The top call: the words are read and the ends opened, the chain runs, and the run is reported.
-ghost use Rattle.std.specs.Prelude.{◌≡◌, map, IfSome, Some};
+ghost use Rattle.std.specs.Prelude.{◌≡◌, map, false, true, IfSome, Some};
 ghost use Rattle.std.specs.String.{string_bytes};
 ghost use Rattle.chain_args.specs.ValidPlan.{IsValidPlan};
 ghost use Rattle.chain_args.specs.PlanOf.{plan_of};
@@ -9,8 +9,9 @@ use crate::beginning::begin_plan;
 use crate::call_end::CallEnd;
 use crate::call_notes::PluginNotes;
 use crate::driver::Driver;
-use crate::finishing::finish;
+use crate::finishing::{finish, finish_live};
 use crate::in_threads::run_in_threads;
+use crate::live_run::run_printing;
 use crate::one_thread::run_in_one_thread;
 use crate::opened_call::OpenedCall;
 use crate::status::Status;
@@ -44,6 +45,10 @@ use ts_outside::{Desk, Gate};
 ///
 /// Each stage of the chain has a thread of its own where the program may use two processors and the words do not ask for one
 /// thread; else one thread serves all stages. The runtime starts the threads and waits for them.
+///
+/// Where the words ask for it (`--live`), one thread serves all stages, and each line of a plugin is reported soon after its packet
+/// was written, in the order of packets, before the ends are closed; the summaries and the end line are reported after that. Where
+/// memory runs out for the rest of such a report, its first lines stand reported, and the status is `NoMemory`.
 pub fn tsp_call<R: Threads + Wait + Sync, D: Desk, G: Gate>(
     rt: &R,
     alloc: Global,
@@ -151,7 +156,7 @@ fn call_in_one_thread<D: Desk, G: Gate>(
     let mut notes = PluginNotes::new(alloc, asks_notes);
     match plan(alloc, words) {
         Ok(plan) => {
-            let status = run_plan_in_one_thread(alloc, &plan, desk, gate, &mut notes);
+            let status = run_plan_here(alloc, &plan, desk, gate, &mut notes);
             CallEnd {
                 status,
                 plan: Some(plan),
@@ -184,9 +189,51 @@ fn run_plan<R: Threads + Wait + Sync, D: Desk, G: Gate>(
     requires { IsValidPlan plan.now }
     ensures { CallsPlan plan.now (D.seen desk.old) (D.seen desk.new) result }
 {
+    if plan.general.live {
+        return run_plan_live(alloc, plan, desk, gate, notes);
+    }
     match driver {
         Driver::InThreads => run_plan_in_threads(rt, alloc, plan, desk, gate, notes),
         Driver::InOneThread => run_plan_in_one_thread(alloc, plan, desk, gate, notes),
+    }
+}
+
+/// The call of a plan in one thread, and what is noted of its plugins.
+fn run_plan_here<D: Desk, G: Gate>(
+    alloc: Global,
+    plan: &Plan,
+    desk: &mut D,
+    gate: &G,
+    notes: &mut PluginNotes,
+) -> Status
+    requires { IsValidPlan plan.now }
+    ensures { CallsPlan plan.now (D.seen desk.old) (D.seen desk.new) result }
+{
+    if plan.general.live {
+        return run_plan_live(alloc, plan, desk, gate, notes);
+    }
+    run_plan_in_one_thread(alloc, plan, desk, gate, notes)
+}
+
+/// The call of a plan in one thread whose lines are printed while it goes, and what is noted of its plugins.
+fn run_plan_live<D: Desk, G: Gate>(
+    alloc: Global,
+    plan: &Plan,
+    desk: &mut D,
+    gate: &G,
+    notes: &mut PluginNotes,
+) -> Status
+    requires valid { IsValidPlan plan.now }
+    requires live { plan.now.general.live ≡ true }
+    ensures { CallsPlan plan.now (D.seen desk.old) (D.seen desk.new) result }
+{
+    match begin_plan(alloc, desk, plan, Driver::InOneThread) {
+        Ok(OpenedCall { core, stages }) => {
+            let run = run_printing(alloc, stages, &core, gate, plan, desk);
+            notes.note_idle(run.end.plugins.as_slice());
+            finish_live(alloc, desk, plan, run, notes)
+        }
+        Err(status) => status,
     }
 }
 
@@ -199,7 +246,8 @@ fn run_plan_in_threads<R: Threads + Wait + Sync, D: Desk, G: Gate>(
     gate: &G,
     notes: &mut PluginNotes,
 ) -> Status
-    requires { IsValidPlan plan.now }
+    requires valid { IsValidPlan plan.now }
+    requires plain { plan.now.general.live ≡ false }
     ensures { CallsPlan plan.now (D.seen desk.old) (D.seen desk.new) result }
 {
     match begin_plan(alloc, desk, plan, Driver::InThreads) {
@@ -220,7 +268,8 @@ fn run_plan_in_one_thread<D: Desk, G: Gate>(
     gate: &G,
     notes: &mut PluginNotes,
 ) -> Status
-    requires { IsValidPlan plan.now }
+    requires valid { IsValidPlan plan.now }
+    requires plain { plan.now.general.live ≡ false }
     ensures { CallsPlan plan.now (D.seen desk.old) (D.seen desk.new) result }
 {
     match begin_plan(alloc, desk, plan, Driver::InOneThread) {

@@ -39,7 +39,7 @@ where
     requires valid { IsValidPlan core.now }
     requires plugins { core.now.plugins ≡ vec_len stages.plugins }
     requires fresh { AreFresh (HeardStands P.rule P.stands_for) stages.plugins.items }
-    ensures { EndsRun (seeing S.seen K.seen P.rule P.stands_for P.preallocated)
+    ensures { EndsRun (seeing S.seen K.seen P.rule P.stands_for P.preallocated) (HeardStands P.rule P.stands_for)
         stages.stuffing core.now stages.input result.input
         stages.plugins.items result.plugins.items stages.output result.output result.closed }
 {

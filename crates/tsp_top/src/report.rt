@@ -23,7 +23,7 @@ use std::alloc::{AllocError, Global};
 use ts_outside::{Desk, say};
 
 /// The last line of a report, or nothing where its lines are bare.
-fn last_text(alloc: Global, bare: bool, closed: Closed) -> Result<String, AllocError>
+pub(crate) fn last_text(alloc: Global, bare: bool, closed: Closed) -> Result<String, AllocError>
     ensures { IfOk result (λ text. string_bytes text ≡ (if bare then [] else end_line closed.cause closed.cut)) }
 {
     if bare {
@@ -34,9 +34,9 @@ fn last_text(alloc: Global, bare: bool, closed: Closed) -> Result<String, AllocE
 
 /// The text of a report, and whether a plugin has a fault.
 #[derive(Drop)]
-struct Judged {
-    text: String,
-    faulty: bool,
+pub(crate) struct Judged {
+    pub(crate) text: String,
+    pub(crate) faulty: bool,
 }
 
 /// All that is reported of a run: what the plugins report of the cells before the cut, then the end line, unless the report is
@@ -65,7 +65,7 @@ fn report_text<P: Plugin>(
 }
 
 /// Whether the closing of the output or the report failed.
-fn one_failed(closing_failed: bool, report_failed: bool) -> bool
+pub(crate) fn one_failed(closing_failed: bool, report_failed: bool) -> bool
     ensures { result ≡ (closing_failed || report_failed) }
 {
     closing_failed || report_failed

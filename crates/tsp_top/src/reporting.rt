@@ -19,7 +19,7 @@ use plugin_trait::{Heard, Line, Plugin, report};
 use std::alloc::AllocError;
 
 /// Appends one line of plugin `j` to the text, bare or with the plugin's number and name.
-fn push_line(
+pub(crate) fn push_line(
     text: &mut String,
     bare: bool,
     j: usize,
@@ -36,7 +36,7 @@ fn push_line(
 }
 
 /// Appends the lines of plugin `j` to the text, bare or not.
-fn push_lines(
+pub(crate) fn push_lines(
     text: &mut String,
     bare: bool,
     j: usize,
@@ -53,7 +53,7 @@ fn push_lines(
 }
 
 /// Whether one of two has a fault.
-fn either(one: bool, other: bool) -> bool
+pub(crate) fn either(one: bool, other: bool) -> bool
     ensures { result ≡ (one || other) }
 {
     one || other

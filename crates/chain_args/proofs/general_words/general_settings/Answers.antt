@@ -26,7 +26,7 @@ returns-clause-reads c = (
       (all_true _ _ c.in_ok-add_start_stuffing.ensures.reads.0 (all_true _ _ c.in_ok-add_stop_stuffing.ensures.reads.0 (all_true _ _ c.in_ok-between.ensures.reads.0
       (all_true _ _ c.in_ok-buffer_packets.ensures.reads.0 (all_true _ _ c.in_ok-max_flushed_packets.ensures.reads.0 (all_true _ _ c.in_ok-max_input_packets.ensures.reads.0 (all_true _ _ c.in_ok-threads.ensures.0 refl)))))))
       refl,
-  general-same _ _ _ _ _ _ _ _ _ _ _ _ _ _ _ _ _ _ _ _ _ _
+  general-same _ _ _ _ _ _ _ _ _ _ _ _ _ _ _ _ _ _ _ _ _ _ _ _
       c.in_ok-add_start_stuffing.ensures.reads.1
       c.in_ok-add_stop_stuffing.ensures.reads.1
       (c.unwrap_or.ensures ∙ ap (λ (o : Option (ℕ × ℕ)). unwrap_or o (0, 1)) c.in_ok-between.ensures.reads.1)
@@ -37,5 +37,6 @@ returns-clause-reads c = (
       c.has_flag-bare.ensures
       c.has_flag-endless.ensures
       c.has_flag-fail_on_faults.ensures
+      c.has_flag-live.ensures
       c.in_ok-threads.ensures.1,
 )

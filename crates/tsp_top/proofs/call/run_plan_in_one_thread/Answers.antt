@@ -18,13 +18,13 @@ pub run_in_one_thread-end-requires-clause-fresh : goal.run_in_one_thread-end-req
 run_in_one_thread-end-requires-clause-fresh g c κs within = c.in-Ok.ensures.2.ready.fresh
 
 pub finish-requires-clause-reach : goal.finish-requires-clause-reach
-finish-requires-clause-reach g c κs within = called-reach _ _ _ _ _ _ _ _ _ _ _ _ _ _ c.in-Ok.ensures c.run_in_one_thread-end.ensures
+finish-requires-clause-reach g c κs within = called-reach _ _ _ _ _ _ _ _ _ _ _ _ _ _ _ c.in-Ok.ensures c.run_in_one_thread-end.ensures
 
 pub finish-requires-clause-few : goal.finish-requires-clause-few
-finish-requires-clause-few g c κs within = called-few _ _ _ _ _ _ _ _ _ _ _ _ _ _ c.in-Ok.ensures c.run_in_one_thread-end.ensures
+finish-requires-clause-few g c κs within = called-few _ _ _ _ _ _ _ _ _ _ _ _ _ _ _ c.in-Ok.ensures c.run_in_one_thread-end.ensures
 
 pub returns-in-Ok : goal.returns-in-Ok
-returns-in-Ok g c = called _ _ c.args.plan.now c.in-Ok.field-0.core (g.D.Desk.seen c.args.desk.now) (g.D.Desk.seen c.begin_plan.new.desk)
+returns-in-Ok g c = called _ _ _ c.args.plan.now c.in-Ok.field-0.core (g.D.Desk.seen c.args.desk.now) (g.D.Desk.seen c.begin_plan.new.desk)
     c.in-Ok.field-0.stages.input c.run_in_one_thread-end.result.input c.in-Ok.field-0.stages.stuffing c.in-Ok.field-0.stages.plugins.items c.run_in_one_thread-end.result.plugins.items
     c.in-Ok.field-0.stages.output c.run_in_one_thread-end.result.output c.run_in_one_thread-end.result.closed c.in-Ok.ensures c.run_in_one_thread-end.ensures
     _ _ c.finish.ensures

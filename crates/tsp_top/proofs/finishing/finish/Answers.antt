@@ -7,6 +7,8 @@ use Rattle.tsp_top.specs.PlannedChain.{named_rules}
 use Rattle.tsp_top.specs.Faults.{faults_from}
 use Rattle.tsp_top.specs.Printed.{reports_asked}
 use Rattle.tsp_top.specs.Openings.{output_closed_as}
+use Rattle.tsp_top.specs.Ran.{chain_over}
+use Rattle.tsp_top.proofs.EndLemmas.{asked-plain}
 use Rattle.tsp_top.proofs.RunLemmas.{run-met, if-ok, on-err, on-true-is_err, reports-run-same}
 use Rattle.tsp_top.proofs.finishing.finish.Goals as goal
 
@@ -28,7 +30,8 @@ returns-in-Ok g c = λ tables stuffing numbers from plugins to rules ends.
         record {
           made = c.args.end.plugins.items;
           run = run;
-          reported = reports-run-same c.args.plan.now.general _ _ _ _ c.in-Ok.closed.cause c.is_err.result (is_err c.close_output-closing.result) (g.D.Desk.seen c.close_output-closing.new.desk) _ _ _
+          reported = asked-plain c.args.plan.now.general (chain_over c.args.plan.now tables run.list) c.in-Ok.closed.cut c.in-Ok.closed.cause _ _ (is_err c.close_output-closing.result) _ _ _ c.requires.plain
+              (reports-run-same c.args.plan.now.general _ _ _ _ c.in-Ok.closed.cause c.is_err.result (is_err c.close_output-closing.result) (g.D.Desk.seen c.close_output-closing.new.desk) _ _ _
               (ap (λ (items : List PluginItem). reports_asked c.args.plan.now.general (named_rules items tables) run.list c.in-Ok.closed.cut c.in-Ok.closed.cause) c.as_slice.ensures)
               (ap (λ (items : List PluginItem). faults_from (rules_of (named_rules items tables)) run.list c.in-Ok.closed.cut 0 (named_rules items tables)) c.as_slice.ensures)
               c.is_err.ensures.value
@@ -36,7 +39,7 @@ returns-in-Ok g c = λ tables stuffing numbers from plugins to rules ends.
               ∙ ap (λ (d : DeskView). output_closed_as g.D.Out.Sink.seen d c.args.end.output (is_err c.close_output-closing.result)) c.close_input.ensures.closed)
               (c.report_run-status.ensures tables run.list
               (ap (λ (l : List _). map (by_plugin g.P.Plugin.rule) l) c.deref_mut.ensures.value ∙ rules ∙ ap (λ (items : List PluginItem). rules_of (named_rules items tables)) (sym c.as_slice.ensures))
-              (rw c.deref_mut.ensures.value (run-met _ from c.args.end.input stuffing plugins c.args.end.plugins.items to c.args.end.output numbers c.in-Ok.closed run)));
+              (rw c.deref_mut.ensures.value (run-met _ _ from c.args.end.input stuffing plugins c.args.end.plugins.items to c.args.end.output numbers c.in-Ok.closed run))));
         },
       );
     }

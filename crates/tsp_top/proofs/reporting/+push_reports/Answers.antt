@@ -47,7 +47,7 @@ returns-clause-faults g t c = λ tables rules input same met.
 pub returns-clause-said : goal.returns-clause-said
 returns-clause-said g t c = λ tables rules input same met.
     let texts : List (List ℕ) = map (λ (line : Line). line.text) c.report.new.heard.lines.items in
-    let split = report-split c.args.bare (by_plugin g.P.Plugin.rule) (HeardStands g.P.Plugin.rule g.P.Plugin.stands_for) rules input c.args.plugins.now c.in-Some.rest.now c.in-Some.first.now
+    let split = report-split said_of c.args.bare (by_plugin g.P.Plugin.rule) (HeardStands g.P.Plugin.rule g.P.Plugin.stands_for) rules input c.args.plugins.now c.in-Some.rest.now c.in-Some.first.now
     c.args.items.now c.in-Some-split_first.later.now c.in-Some-split_first.item.now tables
     c.args.j c.args.cut texts c.in-Some.ensures.cases.0 c.in-Some-split_first.ensures.cases.0 same met
     (λ history mark heard le within. let own : c.args.cut ≤ c.args.cut = omega arith in

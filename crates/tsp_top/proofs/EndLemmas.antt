@@ -1,0 +1,126 @@
+-- The end of a report, whether its lines were printed before or not.
+use Rattle.std.proofs.Common.{◌≡◌, inl, inr, ℕ, suc, List, [], ◌∷◌, ◌++◌, take, Bool, true, false, if◌then◌else◌, refl, ap, sym, ◌∙◌, subst, append-nil}
+use Rattle.ts_outside.specs.Source.{SourceView}
+use Rattle.ts_outside.specs.Sink.{SinkView}
+use Rattle.ts_outside.specs.Desk.{DeskView, reports, report_failed}
+use Rattle.ts_outside.specs.Saying.{Says}
+use Rattle.chain_args.specs.declared.general_conf.GeneralConf.{GeneralConf}
+use Rattle.chain_model.specs.Apply.{StageList}
+use Rattle.chain_model.specs.PluginRule.{PluginRule}
+use Rattle.chain_model.specs.PureRun.{Chain, chain_rules}
+use Rattle.chain_model.specs.Reports.{NamedRule, end_line, plugin_report}
+use Rattle.chain_model.specs.StageLists.{stage_list}
+use Rattle.chain_model.specs.declared.cause.Cause.{Cause}
+use Rattle.chain_live.specs.LiveReports.{LiveLine, lines_below, printed_below, summaries_from}
+use Rattle.stage_run.specs.declared.input_part.InputPart.{InputPart}
+use Rattle.stage_run.specs.declared.input_part.InputPart.TheVariants.{Stream, Nulls, Generated}
+use Rattle.stage_run.specs.declared.output_part.OutputPart.{OutputPart}
+use Rattle.stage_run.specs.declared.output_part.OutputPart.TheVariants as out
+use Rattle.tsp_top.specs.Printed.{live_asked, live_text, reported_as, reports_asked, summaries_printed}
+use Rattle.tsp_top.specs.Printing.{HasPrinted}
+use Rattle.tsp_top.specs.Ran.{closed_desk}
+use Rattle.tsp_top.specs.Reported.{ReportsAsked, ReportsRun, SaysFirst, StandsUnreported}
+use Rattle.tsp_top.specs.declared.status.Status.{Status}
+
+-- ---- reports before and after the ends are closed
+
+module _ {S K : Type 0} (inner : S → SourceView) (seen : K → SinkView) where
+  closed-reports : (from : InputPart S) (to : OutputPart K) (failed : Bool) (d : DeskView) (text : List ℕ) → closed_desk inner seen (reports d text) from to failed ≡ reports (closed_desk inner seen d from to failed) text
+  closed-reports (Stream source) (out.Stream sink) failed d text = refl
+  closed-reports (Stream source) out.Discard failed d text = refl
+  closed-reports (Nulls count) (out.Stream sink) failed d text = refl
+  closed-reports (Nulls count) out.Discard failed d text = refl
+  closed-reports (Generated generator count) (out.Stream sink) failed d text = refl
+  closed-reports (Generated generator count) out.Discard failed d text = refl
+
+  closed-failed : (from : InputPart S) (to : OutputPart K) (failed : Bool) (d : DeskView) → closed_desk inner seen (report_failed d) from to failed ≡ report_failed (closed_desk inner seen d from to failed)
+  closed-failed (Stream source) (out.Stream sink) failed d = refl
+  closed-failed (Stream source) out.Discard failed d = refl
+  closed-failed (Nulls count) (out.Stream sink) failed d = refl
+  closed-failed (Nulls count) out.Discard failed d = refl
+  closed-failed (Generated generator count) (out.Stream sink) failed d = refl
+  closed-failed (Generated generator count) out.Discard failed d = refl
+
+  -- what was reported stands so after both ends are closed
+  pub closed-says : (from : InputPart S) (to : OutputPart K) (closing : Bool) (old new : DeskView) (text : List ℕ) (failed : Bool) → Says old new text failed
+      → Says (closed_desk inner seen old from to closing) (closed_desk inner seen new from to closing) text failed
+  closed-says from to closing old new text false said =
+      ap (λ (d : DeskView). closed_desk inner seen d from to closing) said ∙ closed-reports from to closing old text
+  closed-says from to closing old new text true said = (
+    said.0,
+    said.1,
+    ap (λ (d : DeskView). closed_desk inner seen d from to closing) said.2
+        ∙ (closed-failed from to closing (reports old (take said.0 text)) ∙ ap (λ (d : DeskView). report_failed d) (closed-reports from to closing old (take said.0 text))),
+  )
+
+  pub closed-printed : (from : InputPart S) (to : OutputPart K) (closing : Bool) (bare : Bool) (lines : List LiveLine) (old new made : DeskView) (failed whole : Bool)
+      → made ≡ closed_desk inner seen new from to closing → HasPrinted bare lines old new failed whole
+      → HasPrinted bare lines (closed_desk inner seen old from to closing) made failed whole
+  closed-printed from to closing bare lines old new made failed whole is printed =
+      let M : DeskView → Type 0 = λ d. Says (closed_desk inner seen old from to closing) d (live_text bare printed.first) failed in
+      record {
+        first = printed.first;
+        begins = printed.begins;
+        said = subst M (sym is) (closed-says from to closing old new (live_text bare printed.first) failed printed.said);
+        all = printed.all;
+      }
+
+  -- what is reported after both ends were closed goes on behind what was printed before that
+  pub closed-live : (from : InputPart S) (to : OutputPart K) (closing told : Bool) (general : GeneralConf) (text : List ℕ) (lines : List LiveLine) (faulty : Bool) (why : Cause)
+      (opened ran made new : DeskView) (failed whole : Bool) (status : Status)
+      → told ≡ closing → made ≡ closed_desk inner seen ran from to closing → HasPrinted general.bare lines opened ran failed whole
+      → ((first : DeskView) → HasPrinted general.bare lines first made failed whole → ReportsAsked general text lines faulty why told first new status)
+      → ReportsAsked general text lines faulty why closing (closed_desk inner seen opened from to closing) new status
+  closed-live from to closing told general text lines faulty why opened ran made new failed whole status e is printed reported =
+      let first : DeskView = closed_desk inner seen opened from to closing in
+      let B : Bool → Type 0 = λ b. ReportsAsked general text lines faulty why b first new status in
+      subst B e (reported first (closed-printed from to closing general.bare lines opened ran made failed whole is printed))
+
+  -- a desk that nothing was reported at, after both ends were closed
+  pub closed-silent : (from : InputPart S) (to : OutputPart K) (closing : Bool) (ran opened made : DeskView) → made ≡ closed_desk inner seen ran from to closing → ran ≡ opened
+      → made ≡ closed_desk inner seen opened from to closing
+  closed-silent from to closing ran opened made is same = is ∙ ap (λ (d : DeskView). closed_desk inner seen d from to closing) same
+
+-- ---- the whole report
+
+summaries-plain : (rules : List PluginRule) (input : StageList) (m j : ℕ) (plugins : List NamedRule)
+    → summaries_printed false rules input m j plugins ≡ summaries_from (λ (i : ℕ). (stage_list rules input i).cells) m j plugins
+summaries-plain rules input m j [] = refl
+summaries-plain rules input m j (plugin ∷ rest) =
+    ap (λ (l : List ℕ). plugin_report (suc j) plugin.name (plugin.rule.summary_of (take m (stage_list rules input j).cells)) ++ l) (summaries-plain rules input m (suc j) rest)
+
+-- the lines, the summaries, and then the line for the end or nothing
+live-same : (bare : Bool) (chain : Chain) (m : ℕ) (why : Cause)
+    → live_text bare (lines_below chain m) ++ (summaries_printed bare (chain_rules chain) chain.input m 0 chain.plugins ++ (if bare then [] else end_line why m)) ≡ live_asked bare chain m why
+live-same true chain m why =
+    ap (λ (l : List ℕ). live_text true (lines_below chain m) ++ l) (append-nil (summaries_printed true (chain_rules chain) chain.input m 0 chain.plugins))
+live-same false chain m why =
+    ap (λ (l : List ℕ). printed_below chain m ++ (l ++ end_line why m)) (summaries-plain (chain_rules chain) chain.input m 0 chain.plugins)
+
+pub live-report : (general : GeneralConf) (chain : Chain) (m : ℕ) (why : Cause) → general.live ≡ true
+    → live_text general.bare (lines_below chain m) ++ (summaries_printed general.bare (chain_rules chain) chain.input m 0 chain.plugins ++ (if general.bare then [] else end_line why m))
+    ≡ reported_as general chain m why
+live-report general chain m why live =
+    live-same general.bare chain m why
+    ∙ sym (ap (λ (b : Bool). if b then live_asked general.bare chain m why else reports_asked general chain.plugins chain.input m why) live)
+
+-- ---- what was asked for
+
+pub asked-plain : (general : GeneralConf) (chain : Chain) (m : ℕ) (why : Cause) (lines : List LiveLine) (faulty closing : Bool) (old new : DeskView) (status : Status) → general.live ≡ false
+    → ReportsRun general (reports_asked general chain.plugins chain.input m why) faulty why closing old new status
+    → ReportsAsked general (reported_as general chain m why) lines faulty why closing old new status
+asked-plain general chain m why lines faulty closing old new status plain (inl said) =
+    let T : List ℕ → Type 0 = λ t. Says old new t said.0 in
+    let same : reported_as general chain m why ≡ reports_asked general chain.plugins chain.input m why =
+    ap (λ (b : Bool). if b then live_asked general.bare chain m why else reports_asked general chain.plugins chain.input m why) plain in
+    inl (said.0, subst T (sym same) said.1, said.2)
+asked-plain general chain m why lines faulty closing old new status plain (inr none) =
+    let B : Bool → Type 0 = λ b. StandsUnreported b general.bare lines old new in
+    inr (none.0, subst B (sym plain) none.1)
+
+-- the first lines stand printed where there was no memory for the rest
+pub stands-live : (live bare : Bool) (lines : List LiveLine) (old new : DeskView) (failed whole : Bool) → live ≡ true → HasPrinted bare lines old new failed whole → StandsUnreported live bare lines old new
+stands-live live bare lines old new failed whole is printed =
+    let B : Bool → Type 0 = λ b. StandsUnreported b bare lines old new in
+    let says : SaysFirst bare lines old new = record { first = printed.first; begins = printed.begins; failed = failed; said = printed.said } in
+    subst B (sym is) says

@@ -1,0 +1,82 @@
+//! The text of lines that plugins gave out.
+ghost use Rattle.std.specs.Prelude.{◌≡◌, ◌++◌, [], length, OnOk};
+ghost use Rattle.std.specs.String.{string_bytes};
+ghost use Rattle.chain_rounds.specs.Told.{shown};
+ghost use Rattle.chain_tells.specs.Waiting.{waiting};
+ghost use Rattle.tsp_top.specs.Printed.{live_line};
+ghost use Rattle.tsp_top.specs.Printing.{name_at, told_text};
+
+use crate::reporting::push_line;
+use chain_rounds::ToldLine;
+use chain_tells::{LineTexts, WaitingLines};
+use plugin_set::PluginItem;
+use std::alloc::{AllocError, Global};
+
+/// The name of the plugin of this number, counted from 1.
+fn name_of_number(items: &[PluginItem], number: usize) -> &str
+    ensures { result.now ≡ name_at items.now number }
+{
+    match items.get(number.saturating_sub(1)) {
+        Some(item) => item.conf.name(),
+        None => "",
+    }
+}
+
+/// Appends a line that a plugin gave out to the text, bare or with the plugin's number and name.
+fn push_told(
+    text: &mut String,
+    bare: bool,
+    items: &[PluginItem],
+    told: &ToldLine,
+) -> Result<(), AllocError>
+    ensures { OnOk result (string_bytes text.new
+        ≡ string_bytes text.old ++ live_line bare (shown (name_at items.now) told.now)) }
+{
+    let name = name_of_number(items, told.plugin);
+    push_line(text, bare, told.plugin, name, told.line.text.as_str())
+}
+
+/// Appends the lines that wait to the text, one after another, until none is left.
+fn push_waiting(
+    text: &mut String,
+    bare: bool,
+    items: &[PluginItem],
+    lines: &mut WaitingLines,
+) -> Result<(), AllocError>
+    ensures said { OnOk result (string_bytes text.new ≡ string_bytes text.old ++ told_text bare items.now (waiting lines.old)) }
+    ensures rows { length lines.new.rows.items ≡ length lines.old.rows.items }
+{
+    while let Some(told) = lines.next() {
+        push_told(text, bare, items, &told)?;
+    }
+    Ok(())
+}
+
+/// Lets go of the lines that wait.
+fn let_go(lines: &mut WaitingLines)
+    ensures all { waiting lines.new ≡ [] }
+    ensures rows { length lines.new.rows.items ≡ length lines.old.rows.items }
+{
+    while let Some(_told) = lines.next() {}
+}
+
+/// Writes the lines of a run, with the numbers and names of their plugins or bare.
+#[derive(Drop)]
+pub(crate) struct PluginTexts<'a> {
+    /// Whether lines go without the number and the name of their plugin.
+    pub(crate) bare: bool,
+    /// The plugins of the run.
+    pub(crate) items: &'a [PluginItem],
+}
+
+impl<'a> LineTexts for PluginTexts<'a> {
+    ghost text_of = { λ texts lines. told_text texts.bare texts.items.now lines };
+
+    fn take_text(&self, alloc: Global, lines: &mut WaitingLines) -> Result<String, AllocError> {
+        let mut text = String::new(alloc);
+        let pushed = push_waiting(&mut text, self.bare, self.items, lines);
+        let_go(lines);
+        pushed?;
+        Ok(text)
+    }
+}
