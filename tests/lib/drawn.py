@@ -52,7 +52,7 @@ TABLES = [programs.TOP / "examples" / name for name in ("pat.json", "cat.json", 
 THREADS = ["", "", "--threads auto", "--threads 1"]
 
 # What may be asked of the report and of the exit number.
-ENDS = ["--bare", "--endless", "--fail-on-faults"]
+ENDS = ["--bare", "--endless", "--fail-on-faults", "--live"]
 
 # What draws the same of each kind of size.
 BUFFERS = ["--buffer-packets 1", "--buffer-packets 2", "--buffer-packets {few}", "--buffer-packets {many}", ""]
