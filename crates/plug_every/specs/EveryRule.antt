@@ -1,5 +1,5 @@
 -- A plugin that gives its summary at each so-many-th packet too. This project's own rule.
-use Rattle.std.specs.Prelude.{ℕ, ◌+◌, ◌%◌, ◌==◌, List, [], ◌∷◌, ◌++◌, Bool, codes, if◌then◌else◌}
+use Rattle.std.specs.Prelude.{ℕ, ◌+◌, ◌%◌, ◌==◌, List, [], ◌∷◌, ◌++◌, Bool, Option, None, Some, codes, if◌then◌else◌}
 use Rattle.std.specs.Fmt.{decimal}
 use Rattle.ts_packet.specs.declared.cell.Cell.{Cell}
 use Rattle.ts_packet.specs.Cells.{Live}
@@ -31,3 +31,8 @@ every_rule n counts rule = record {
   agrees = rule.agrees;
   has_fault = rule.has_fault;
 }
+
+-- the rule of a plugin that may have such summaries
+abbrev pub rule_every : Option ℕ → Bool → PluginRule → PluginRule
+rule_every None counts rule = rule
+rule_every (Some n) counts rule = every_rule n counts rule
