@@ -11,10 +11,11 @@ use Rattle.plug_psi.proofs.RowTables.{item_of, table_of}
 use Rattle.plug_edit.specs.Changing.{changed_first, changed_one}
 use Rattle.plug_edit.specs.PatEdit.{edited_pat}
 use Rattle.plug_edit.specs.CatEdit.{edited_cat, with_ca}
-use Rattle.plug_edit.specs.PmtEdit.{edited_pmt}
+use Rattle.plug_edit.specs.PmtEdit.{edited_pmt, pmt_at}
 use Rattle.plug_edit.specs.SdtEdit.{edited_sdt}
 use Rattle.plug_edit.specs.NitEdit.{edited_nit}
 use Rattle.plug_edit.specs.declared.pmt_changes.PmtChanges.{PmtChanges}
+use Rattle.plug_edit.specs.declared.pmt_place.PmtPlace.TheVariants.{OnPid, OfService}
 
 -- a table of another version
 abbrev of_version : ℕ → TableHolding → TableHolding
@@ -46,16 +47,26 @@ abbrev no_changes : PmtChanges
 no_changes = record { remove_descriptor = []; remove_pid_descriptor = []; language = []; add_ca = []; add_descriptor = []; add_pid_descriptor = [] }
 
 -- the component on PID 257 is left out, one of type 6 on PID 258 comes last; PID 256 is moved, and with it the PCR
-pmt-row : edited_pmt (record { pmt_pid = 4096; add_pid = (258, 6) ∷ []; remove_pid = (257, 257) ∷ []; move_pid = (256, 500) ∷ []; pcr_pid = None; changes = no_changes; drop = false; stuffing = false; new_version = Some 9; increment_version = false }) pmt_row
+pmt-row : edited_pmt (record { place = OnPid 4096; add_pid = (258, 6) ∷ []; remove_pid = (257, 257) ∷ []; move_pid = (256, 500) ∷ []; pcr_pid = None; changes = no_changes; drop = false; stuffing = false; new_version = Some 9; increment_version = false }) pmt_row
     ≡ Some (of_version 9 (table_of 0x02 1 (500 ∷ []) [] (item_of 2 500 [] ∷ item_of 6 258 [] ∷ [])))
 unfolding changed_first descriptors_from with_ca
 pmt-row = refl
 
 -- a PCR_PID that is given goes before one that is moved
-pmt-pcr : edited_pmt (record { pmt_pid = 4096; add_pid = []; remove_pid = []; move_pid = (256, 500) ∷ []; pcr_pid = Some 8191; changes = no_changes; drop = false; stuffing = false; new_version = None; increment_version = false }) pmt_row
+pmt-pcr : edited_pmt (record { place = OnPid 4096; add_pid = []; remove_pid = []; move_pid = (256, 500) ∷ []; pcr_pid = Some 8191; changes = no_changes; drop = false; stuffing = false; new_version = None; increment_version = false }) pmt_row
     ≡ Some (table_of 0x02 1 (8191 ∷ []) [] (item_of 2 500 [] ∷ item_of 3 257 [] ∷ []))
 unfolding descriptors_from with_ca
 pmt-pcr = refl
+
+-- with a service its own PMT is edited, and that of another one stays as it is
+pmt-of-service : pmt_at (record { place = OfService 1; add_pid = []; remove_pid = []; move_pid = (256, 500) ∷ []; pcr_pid = None; changes = no_changes; drop = false; stuffing = false; new_version = None; increment_version = false }) pmt_row
+    ≡ Some (table_of 0x02 1 (500 ∷ []) [] (item_of 2 500 [] ∷ item_of 3 257 [] ∷ []))
+unfolding descriptors_from with_ca
+pmt-of-service = refl
+
+pmt-of-another : pmt_at (record { place = OfService 2; add_pid = []; remove_pid = []; move_pid = (256, 500) ∷ []; pcr_pid = None; changes = no_changes; drop = false; stuffing = false; new_version = None; increment_version = false }) pmt_row
+    ≡ None
+pmt-of-another = refl
 
 -- descriptors of a component: a maximum_bitrate, and two languages, deu and eng, of which the second is for the hard of hearing
 abbrev rate : TaggedBody
@@ -65,14 +76,14 @@ abbrev two_languages : TaggedBody
 two_languages = record { tag = 0x0A; body = 0x64 ∷ 0x65 ∷ 0x75 ∷ 0 ∷ 0x65 ∷ 0x6E ∷ 0x67 ∷ 2 ∷ [] }
 
 -- the first code of the first component on the PID becomes fra, and all else stays
-language-set : edited_pmt (record { pmt_pid = 4096; add_pid = []; remove_pid = []; move_pid = []; pcr_pid = None; changes = record no_changes { language = (257, 0x66 ∷ 0x72 ∷ 0x61 ∷ []) ∷ [] }; drop = false; stuffing = false; new_version = None; increment_version = false })
+language-set : edited_pmt (record { place = OnPid 4096; add_pid = []; remove_pid = []; move_pid = []; pcr_pid = None; changes = record no_changes { language = (257, 0x66 ∷ 0x72 ∷ 0x61 ∷ []) ∷ [] }; drop = false; stuffing = false; new_version = None; increment_version = false })
     (table_of 0x02 1 (256 ∷ []) [] (item_of 3 257 (rate ∷ two_languages ∷ []) ∷ item_of 3 257 (two_languages ∷ []) ∷ []))
     ≡ Some (table_of 0x02 1 (256 ∷ []) [] (item_of 3 257 (rate ∷ record { tag = 0x0A; body = 0x66 ∷ 0x72 ∷ 0x61 ∷ 0 ∷ 0x65 ∷ 0x6E ∷ 0x67 ∷ 2 ∷ [] } ∷ []) ∷ item_of 3 257 (two_languages ∷ []) ∷ []))
 unfolding changed_first changed_one descriptors_from with_ca
 language-set = refl
 
 -- a component that was moved there, and has no language, gets one; a PID without a component has no effect
-language-new : edited_pmt (record { pmt_pid = 4096; add_pid = []; remove_pid = []; move_pid = (257, 300) ∷ []; pcr_pid = None; changes = record no_changes { language = (257, 0x66 ∷ 0x72 ∷ 0x61 ∷ []) ∷ (300, 0x66 ∷ 0x72 ∷ 0x61 ∷ []) ∷ [] }; drop = false; stuffing = false; new_version = None; increment_version = false })
+language-new : edited_pmt (record { place = OnPid 4096; add_pid = []; remove_pid = []; move_pid = (257, 300) ∷ []; pcr_pid = None; changes = record no_changes { language = (257, 0x66 ∷ 0x72 ∷ 0x61 ∷ []) ∷ (300, 0x66 ∷ 0x72 ∷ 0x61 ∷ []) ∷ [] }; drop = false; stuffing = false; new_version = None; increment_version = false })
     (table_of 0x02 1 (256 ∷ []) [] (item_of 3 257 (rate ∷ []) ∷ []))
     ≡ Some (table_of 0x02 1 (256 ∷ []) [] (item_of 3 300 (rate ∷ record { tag = 0x0A; body = 0x66 ∷ 0x72 ∷ 0x61 ∷ 0 ∷ [] } ∷ []) ∷ []))
 unfolding changed_first changed_one descriptors_from with_ca
@@ -80,7 +91,7 @@ language-new = refl
 
 -- tags are left out of the program, and of all components on a PID; then descriptors come last in the program, and in the first of these
 -- components
-descriptors-changed : edited_pmt (record { pmt_pid = 4096; add_pid = []; remove_pid = []; move_pid = []; pcr_pid = None; changes = record { remove_descriptor = (9, 14) ∷ []; remove_pid_descriptor = (257, 0x0A) ∷ []; language = []; add_ca = []; add_descriptor = 0x52 ∷ 1 ∷ 7 ∷ []; add_pid_descriptor = (257, 0x52 ∷ 1 ∷ 8 ∷ 0x0A ∷ 0 ∷ []) ∷ [] }; drop = true; stuffing = false; new_version = None; increment_version = true })
+descriptors-changed : edited_pmt (record { place = OnPid 4096; add_pid = []; remove_pid = []; move_pid = []; pcr_pid = None; changes = record { remove_descriptor = (9, 14) ∷ []; remove_pid_descriptor = (257, 0x0A) ∷ []; language = []; add_ca = []; add_descriptor = 0x52 ∷ 1 ∷ 7 ∷ []; add_pid_descriptor = (257, 0x52 ∷ 1 ∷ 8 ∷ 0x0A ∷ 0 ∷ []) ∷ [] }; drop = true; stuffing = false; new_version = None; increment_version = true })
     (table_of 0x02 1 (256 ∷ []) (rate ∷ []) (item_of 2 256 (two_languages ∷ []) ∷ item_of 3 257 (two_languages ∷ rate ∷ []) ∷ item_of 4 257 (two_languages ∷ []) ∷ []))
     ≡ Some (of_version 1 (table_of 0x02 1 (256 ∷ []) (record { tag = 0x52; body = 7 ∷ [] } ∷ []) (item_of 2 256 (two_languages ∷ []) ∷ item_of 3 257 (rate ∷ record { tag = 0x52; body = 8 ∷ [] } ∷ record { tag = 0x0A; body = [] } ∷ []) ∷ item_of 4 257 [] ∷ [])))
 unfolding changed_first changed_one descriptors_from with_ca

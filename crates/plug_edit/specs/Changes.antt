@@ -12,7 +12,7 @@ use Rattle.plug_psi.specs.Edits.{Change}
 use Rattle.plug_psi.specs.TableChange.{changed_current, of_id}
 use Rattle.plug_edit.specs.PatEdit.{edited_pat}
 use Rattle.plug_edit.specs.CatEdit.{edited_cat}
-use Rattle.plug_edit.specs.PmtEdit.{edited_pmt}
+use Rattle.plug_edit.specs.PmtEdit.{pmt_at}
 use Rattle.plug_edit.specs.SdtEdit.{edited_sdt}
 use Rattle.plug_edit.specs.declared.sdt_conf.EditSdtConf.{EditSdtConf}
 use Rattle.plug_edit.specs.NitEdit.{edited_nit}
@@ -29,9 +29,9 @@ change_pat conf run = changed_current pat_page (λ table. Some (edited_pat conf 
 abbrev pub change_cat : EditCatConf → List (List ℕ) → Change
 change_cat conf run = changed_current cat_page (edited_cat conf) (current_in (read_cat run))
 
--- what `pmt` makes of a PMT
+-- what `pmt` makes of a PMT; with a service, those of others stay as they are
 abbrev pub change_pmt : EditPmtConf → List (List ℕ) → Change
-change_pmt conf run = changed_current pmt_page (edited_pmt conf) (current_in (read_run pmt_page run))
+change_pmt conf run = changed_current pmt_page (pmt_at conf) (current_in (read_run pmt_page run))
 
 -- what `nit` makes of a NIT of the actual network
 abbrev pub change_nit : EditNitConf → List (List ℕ) → Change

@@ -7,7 +7,7 @@ use Rattle.ts_packet.specs.Cells.{live_packets}
 use Rattle.ts_packet.specs.Header.{pid_of}
 use Rattle.ts_demux.specs.TablesOn.{tables_on}
 use Rattle.ts_demux.specs.TakenWhere.{taken_on}
-use Rattle.chain_model.specs.PluginRule.{PluginRule, passes}
+use Rattle.chain_model.specs.PluginRule.{PluginRule, RuleOutcome, passes}
 use Rattle.plugin_trait.specs.Finding.{finds_none}
 use Rattle.plugin_trait.specs.SilentRule.{silent_rule}
 use Rattle.plug_psi.specs.AlteredTables.{alters_one}
@@ -31,11 +31,12 @@ abbrev pub finds_altered : ℕ → (List (List ℕ) → Change) → List Cell �
 finds_altered pid edit history packet labels =
     is_taken pid packet && alters_one edit (tables_on pid (taken_of pid history ++ packet ∷ []))
 
--- A taken packet is replaced by that of the cycle of the edited contents, and all other packets pass. A run has a fault in
--- which no complete table came that the edit alters.
+-- a taken packet is replaced by that of the cycle of the edited contents, and any other one passes
+abbrev pub edited_on : ℕ → (List (List ℕ) → Change) → List Cell → List ℕ → RuleOutcome
+edited_on pid edit history packet =
+    passes (if is_taken pid packet then replaced pid edit (taken_of pid history) packet else packet)
+
+-- Packets are edited on the PID. A run has a fault in which no complete table came that the edit alters.
 abbrev pub edit_rule : ℕ → (List (List ℕ) → Change) → PluginRule
 edit_rule pid edit =
-    record (silent_rule (λ history packet.
-    passes (if is_taken pid packet then replaced pid edit (taken_of pid history) packet else packet))) {
-      has_fault = finds_none (finds_altered pid edit);
-    }
+    record (silent_rule (edited_on pid edit)) { has_fault = finds_none (finds_altered pid edit) }

@@ -20,6 +20,7 @@ pub mod Changes
 pub mod EditRule
 pub mod EditState
 pub mod PmtRule
+pub mod PmtState
 pub mod EditWords
 pub mod PatWords
 pub mod CatWords

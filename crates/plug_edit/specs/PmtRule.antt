@@ -1,14 +1,25 @@
 -- The rule of `pmt`.
--- This project's own rule: the packets of components that are taken out may go too. Those on the PID of the PMTs never do,
--- since they are edited.
+-- ISO/IEC 13818-1, 2.4.4.3: the PAT names the PID of a service's PMT. This project's own rule: the PMTs on a PID are edited,
+-- whatever the PAT says of it, or those of a service on the PID that the first entry of the service in the PAT in force has.
+-- The packets of components that are taken out may go too. Those on the PID of the PMTs never do, since they are edited.
 use Rattle.std.specs.Prelude.{ℕ, ◌&&◌, Bool, List, [], None, nat_eq, not, if◌then◌else◌}
+use Rattle.ts_packet.specs.declared.cell.Cell.{Cell}
+use Rattle.ts_packet.specs.Cells.{live_packets}
 use Rattle.ts_packet.specs.Header.{pid_of}
-use Rattle.chain_model.specs.PluginRule.{PluginRule}
+use Rattle.chain_model.specs.PluginRule.{PluginRule, RuleOutcome}
 use Rattle.plugin_options.specs.NumberSet.{has_number}
 use Rattle.plugin_trait.specs.Actions.{action}
+use Rattle.plugin_trait.specs.Finding.{finds_none}
+use Rattle.plugin_trait.specs.SilentRule.{silent_rule}
+use Rattle.plug_psi.specs.Edits.{Change}
+use Rattle.service_edit.specs.ServiceRule.{made_of}
+use Rattle.service_edit.specs.ServiceRule as of_service
 use Rattle.plug_edit.specs.Changes.{change_pmt}
-use Rattle.plug_edit.specs.EditRule.{edit_rule}
+use Rattle.plug_edit.specs.EditRule.{edit_rule, edited_on}
+use Rattle.plug_edit.specs.EditRule as on_one
 use Rattle.plug_edit.specs.declared.pmt_conf.EditPmtConf.{EditPmtConf}
+use Rattle.plug_edit.specs.declared.pmt_place.PmtPlace.{PmtPlace}
+use Rattle.plug_edit.specs.declared.pmt_place.PmtPlace.TheVariants.{OnPid, OfService}
 
 -- a packet goes: its PID is one of these, and not the PID that is edited
 abbrev pub goes : List (ℕ × ℕ) → ℕ → List ℕ → Bool
@@ -21,11 +32,32 @@ without_pids dropped stuffing pid rule = record rule {
       if goes dropped pid packet then action stuffing None else rule.outcome_of history packet labels;
 }
 
+-- the rule on a PID: its tables are edited, and packets on other PIDs go
+abbrev pub on_pid : ℕ → (List (List ℕ) → Change) → List (ℕ × ℕ) → Bool → PluginRule
+on_pid pid change dropped stuffing = without_pids dropped stuffing pid (edit_rule pid change)
+
+-- what becomes of a packet, after the cells that were met before
+abbrev pub outcome_at : PmtPlace → (List (List ℕ) → Change) → List (ℕ × ℕ) → Bool → List Cell → List ℕ → RuleOutcome
+outcome_at (OnPid pid) change dropped stuffing history packet =
+    if goes dropped pid packet then action stuffing None else edited_on pid change history packet
+outcome_at (OfService service) change dropped stuffing history packet =
+    action stuffing (made_of service change dropped (live_packets history) packet)
+
+-- whether a packet is edited with which, or before which, a table was complete that the edit alters
+abbrev pub finds_at : PmtPlace → (List (List ℕ) → Change) → List Cell → List ℕ → ℕ → Bool
+finds_at (OnPid pid) change = on_one.finds_altered pid change
+finds_at (OfService service) change = of_service.finds_altered service change
+
 -- the PIDs whose packets go
 abbrev pub dropped_pids : EditPmtConf → List (ℕ × ℕ)
 dropped_pids conf = if conf.drop then conf.remove_pid else []
 
--- the PMTs on the PID are edited, and the packets that go are taken out
+-- the PMTs of the place are edited, and the packets that go are taken out; a run has a fault in which no complete PMT came
+-- that the edit alters
+abbrev pub rule_at : PmtPlace → (List (List ℕ) → Change) → List (ℕ × ℕ) → Bool → PluginRule
+rule_at place change dropped stuffing =
+    record (silent_rule (outcome_at place change dropped stuffing)) { has_fault = finds_none (finds_at place change) }
+
+-- the rule of these settings
 abbrev pub pmt_rule : EditPmtConf → PluginRule
-pmt_rule conf =
-    without_pids (dropped_pids conf) conf.stuffing conf.pmt_pid (edit_rule conf.pmt_pid (change_pmt conf))
+pmt_rule conf = rule_at conf.place (change_pmt conf) (dropped_pids conf) conf.stuffing

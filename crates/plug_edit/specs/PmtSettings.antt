@@ -1,5 +1,6 @@
 -- Valid settings of `pmt`.
--- ISO/IEC 13818-1, 2.4.4.9: a stream_type has eight bits, a PID has 13; 2.6.18: a code has three bytes. This project's own
+-- ISO/IEC 13818-1, 2.4.4.5: a program_number has 16 bits, and 0 is not that of a service; 2.4.4.9: a stream_type has eight
+-- bits, a PID has 13; 2.6.18: a code has three bytes. This project's own
 -- rule: at most one of the two options of the version is given.
 use Rattle.std.specs.Prelude.{◌≡◌, ℕ, ◌<◌, IsTrue, List, length}
 use Rattle.std.specs.Option.{ForSome}
@@ -10,6 +11,13 @@ use Rattle.plug_edit.specs.CatSettings.{IsAddedCa}
 use Rattle.plug_edit.specs.Versions.{IsVersion, versions_agree}
 use Rattle.plug_edit.specs.declared.pmt_changes.PmtChanges.{PmtChanges}
 use Rattle.plug_edit.specs.declared.pmt_conf.EditPmtConf.{EditPmtConf}
+use Rattle.plug_edit.specs.declared.pmt_place.PmtPlace.{PmtPlace}
+use Rattle.plug_edit.specs.declared.pmt_place.PmtPlace.TheVariants.{OnPid, OfService}
+
+-- a PID, or the number of a service
+pub record IsPlace (place : PmtPlace) : Type 0 where
+  pub on_pid : (pid : ℕ) → place ≡ OnPid pid → pid < PID_COUNT
+  pub of_service : (service : ℕ) → place ≡ OfService service → (0 < service) × (service < 65536)
 
 -- a PID and a type
 pub record IsAddedComponent (pair : ℕ × ℕ) : Type 0 where
@@ -38,7 +46,7 @@ pub record AreValidChanges (changes : PmtChanges) : Type 0 where
 
 -- each number is in its range, and no two options exclude each other
 pub record IsValidPmt (c : EditPmtConf) : Type 0 where
-  pub table : c.pmt_pid < PID_COUNT
+  pub place : IsPlace c.place
   pub added : All IsAddedComponent c.add_pid
   pub removed : AllBelow PID_COUNT c.remove_pid
   pub moved : All IsMove c.move_pid

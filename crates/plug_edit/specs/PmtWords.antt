@@ -1,17 +1,20 @@
 -- The options of `pmt`, and its settings from their values.
 -- This project's own rule.
-use Rattle.std.specs.Prelude.{◌&&◌, ◌||◌, ◌++◌, [], ◌∷◌, Bool, List, codes, not, unwrap_or}
+use Rattle.std.specs.Prelude.{ℕ, ◌&&◌, ◌||◌, ◌++◌, [], ◌∷◌, Bool, List, Option, None, Some, codes, not, unwrap_or}
 use Rattle.clap.specs.Walk.{Row}
 use Rattle.plugin_options.specs.declared.limits.TheConstants.{LAST_PID}
 use Rattle.plugin_options.specs.declared.part.Part.TheVariants.{Code, Descriptors}
-use Rattle.plugin_options.specs.Forms.{part, ranges}
-use Rattle.plugin_options.specs.Options.{OptionRow, flag, has_flag, has_value, value}
+use Rattle.plugin_options.specs.Forms.{number, part, ranges}
+use Rattle.plugin_options.specs.Number.{number_within}
+use Rattle.plugin_options.specs.Options.{OptionRow, flag, has_flag, has_value, read_value, value}
 use Rattle.plugin_options.specs.OptionTable.{OptionTable}
 use Rattle.plug_edit.specs.EditWords.{number_found, number_row, numbered_found, numbered_row, pairs_found, pairs_row, part_found, ranges_found, version_rows}
 use Rattle.plug_edit.specs.Versions.{versions_agree}
 use Rattle.plug_edit.specs.declared.limits.TheConstants.{LAST_ID, LAST_TAG, LAST_TYPE, LAST_VERSION}
 use Rattle.plug_edit.specs.declared.pmt_changes.PmtChanges.{PmtChanges}
 use Rattle.plug_edit.specs.declared.pmt_conf.EditPmtConf.{EditPmtConf}
+use Rattle.plug_edit.specs.declared.pmt_place.PmtPlace.{PmtPlace}
+use Rattle.plug_edit.specs.declared.pmt_place.PmtPlace.TheVariants.{OnPid, OfService}
 
 -- the options of descriptors
 abbrev pub change_rows : List OptionRow
@@ -29,14 +32,33 @@ last_rows = record { name = codes "drop"; kind = flag }
     ∷ record { name = codes "stuffing"; kind = flag }
     ∷ version_rows
 
--- the options
-abbrev pub pmt_rows : List OptionRow
-pmt_rows = number_row (codes "pmt-pid") LAST_PID
-    ∷ pairs_row (codes "add-pid") (0, LAST_PID) (0, LAST_TYPE)
+-- the options of the place, of which exactly one is given
+abbrev pub place_rows : List OptionRow
+place_rows = number_row (codes "pmt-pid") LAST_PID
+    ∷ record { name = codes "service"; kind = value (number 1 LAST_ID) }
+    ∷ []
+
+-- the options of components
+abbrev pub component_rows : List OptionRow
+component_rows = pairs_row (codes "add-pid") (0, LAST_PID) (0, LAST_TYPE)
     ∷ record { name = codes "remove-pid"; kind = value (ranges LAST_PID) }
     ∷ pairs_row (codes "move-pid") (0, LAST_PID) (0, LAST_PID)
     ∷ number_row (codes "pcr-pid") LAST_PID
-    ∷ (change_rows ++ last_rows)
+    ∷ []
+
+-- the options
+abbrev pub pmt_rows : List OptionRow
+pmt_rows = place_rows ++ (component_rows ++ (change_rows ++ last_rows))
+
+-- the place: that of a service, where one is given
+abbrev pub place_of : Option ℕ → ℕ → PmtPlace
+place_of None pid = OnPid pid
+place_of (Some service) pid = OfService service
+
+-- the place from the values that were found
+abbrev pub place_found : List Row → PmtPlace
+place_found found =
+    place_of (read_value (number_within 1 LAST_ID) (codes "service") found) (unwrap_or (number_found (codes "pmt-pid") LAST_PID found) 0)
 
 -- the changes of descriptors from the values that were found
 abbrev pub changes_found : List Row → PmtChanges
@@ -52,7 +74,7 @@ changes_found found = record {
 -- the settings from the values that were found
 abbrev pub pmt_settings : List Row → EditPmtConf
 pmt_settings found = record {
-  pmt_pid = unwrap_or (number_found (codes "pmt-pid") LAST_PID found) 0;
+  place = place_found found;
   add_pid = pairs_found (codes "add-pid") (0, LAST_PID) (0, LAST_TYPE) found;
   remove_pid = ranges_found (codes "remove-pid") LAST_PID found;
   move_pid = pairs_found (codes "move-pid") (0, LAST_PID) (0, LAST_PID) found;
@@ -68,17 +90,22 @@ pmt_settings found = record {
 abbrev pub drops_agree : Bool → Bool → Bool → Bool
 drops_agree removes drops stuffs = (removes || not drops) && (drops || not stuffs)
 
+-- one place alone is given
+abbrev pub places_agree : List Row → Bool
+places_agree found = not (has_value (codes "pmt-pid") found && has_value (codes "service") found)
+
 -- the options that were found can be given together
 abbrev pub pmt_together : List Row → Bool
 pmt_together found =
-    versions_agree (number_found (codes "new-version") LAST_VERSION found) (has_flag (codes "increment-version") found)
-    && drops_agree (has_value (codes "remove-pid") found) (has_flag (codes "drop") found) (has_flag (codes "stuffing") found)
+    places_agree found
+    && (versions_agree (number_found (codes "new-version") LAST_VERSION found) (has_flag (codes "increment-version") found)
+    && drops_agree (has_value (codes "remove-pid") found) (has_flag (codes "drop") found) (has_flag (codes "stuffing") found))
 
--- the PID of the tables has to be given
+-- exactly one of the two options of the place has to be given
 abbrev pub pmt : OptionTable EditPmtConf
 pmt = record {
   rows = pmt_rows;
-  has_needed = has_value (codes "pmt-pid");
+  has_needed = λ found. has_value (codes "pmt-pid") found || has_value (codes "service") found;
   settings = pmt_settings;
   go_together = pmt_together;
 }

@@ -3,14 +3,15 @@
 ghost use Rattle.std.specs.Prelude.{◌≡◌, IfOk};
 
 use crate::pmt_changes::PmtChanges;
+use crate::pmt_place::PmtPlace;
 use plugin_options::{NumberSet, PairList};
 use std::alloc::{AllocError, Global};
 
-/// Settings of `pmt`, which edits the PMTs on a PID.
+/// Settings of `pmt`, which edits the PMTs on a PID, or those of a service.
 #[derive(Drop)]
 pub struct EditPmtConf {
-    /// The PID of the PMTs, 0 to 8191. On 8191, the PID of null packets, nothing is edited.
-    pub pmt_pid: u64,
+    /// Where the PMTs are.
+    pub place: PmtPlace,
     /// Components that are added, each a PID and a stream_type, 0 to 255. If the PID has one already, its type is set.
     pub add_pid: PairList,
     /// PIDs whose components are removed.
@@ -37,7 +38,7 @@ impl EditPmtConf {
         ensures { IfOk result (λ conf. conf ≡ self.now) }
     {
         Ok(EditPmtConf {
-            pmt_pid: self.pmt_pid,
+            place: self.place,
             add_pid: PairList::of(Vec::from_slice(alloc, self.add_pid.as_slice())?),
             remove_pid: NumberSet::of(Vec::from_slice(alloc, self.remove_pid.as_slice())?),
             move_pid: PairList::of(Vec::from_slice(alloc, self.move_pid.as_slice())?),

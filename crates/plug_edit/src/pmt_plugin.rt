@@ -1,41 +1,22 @@
 //! The plugin `pmt`.
 
 ghost use Rattle.std.specs.Prelude.{◌≡◌, [], None, IfOk};
-ghost use Rattle.plug_edit.specs.PmtRule.{dropped_pids, pmt_rule};
+ghost use Rattle.plug_edit.specs.PmtRule.{pmt_rule};
 ghost use Rattle.plug_edit.specs.PmtSettings.{IsValidPmt};
+ghost use Rattle.plug_edit.specs.PmtState.{StandsFor, rule_of};
 
-use crate::edit_pid::new_steps;
 use crate::pmt_conf::EditPmtConf;
-use crate::pmt_edit::edit_pmt;
-use crate::pmt_steps::PmtSteps;
-use plug_psi::{Current, EditsTable};
-use plugin_options::{NumberSet, PidSet};
+use crate::pmt_on_pid::{dropped, new_on_pid};
+use crate::pmt_place::PmtPlace;
+use crate::pmt_tables::{PmtTables, new_tables};
+use crate::pmt_ways::PmtWays;
+use plug_psi::TableEdit;
 use plugin_trait::{Plugin, Silent};
+use service_edit::new_service_steps;
 use std::alloc::{AllocError, Global};
-use ts_psi::Pmt;
 
-/// The edit of `pmt` for a current PMT.
-#[derive(Drop)]
-pub struct PmtEdit {
-    conf: EditPmtConf,
-    ghost valid: { IsValidPmt conf },
-}
-
-impl EditsTable for PmtEdit {
-    ghost use Rattle.plug_edit.specs.PmtEdit.{edited_pmt};
-
-    type Table = Pmt;
-
-    ghost edited = { λ s table. edited_pmt s.conf table };
-
-    fn edited(&self, alloc: Global, table: Pmt) -> Result<Option<Pmt>, AllocError> {
-        let edited = edit_pmt(alloc, &self.conf, table)?;
-        Ok(edited)
-    }
-}
-
-/// The plugin `pmt`, which edits the PMTs on a PID.
-pub type EditPmt = Silent<PmtSteps<Current<PmtEdit>>>;
+/// The plugin `pmt`, which edits the PMTs on a PID, or those of a service.
+pub type EditPmt = Silent<PmtWays<PmtTables>>;
 
 /// A new `pmt`, which has processed no packet. It keeps a copy of the settings; its steps allocate memory.
 pub fn new_edit_pmt(
@@ -48,29 +29,32 @@ pub fn new_edit_pmt(
     ensures fresh { IfOk result (λ plugin. ⟦<EditPmt as Plugin>⟧.stands_for plugin [] 0) }
     ensures preallocated { IfOk result (λ plugin. ⟦<EditPmt as Plugin>⟧.preallocated plugin ≡ None) }
 {
-    let dropped = dropped(alloc, conf)?;
-    let edit = Current {
-        edit: PmtEdit {
-            conf: conf.copy(alloc)?,
-        },
-    };
-    let editor = new_steps(alloc, conf.pmt_pid as u16, edit)?;
-    Ok(Silent {
-        steps: PmtSteps {
-            editor,
-            dropped,
-            stuffing: conf.stuffing,
-        },
-    })
+    let steps = new_ways(alloc, conf)?;
+    Ok(Silent { steps })
 }
 
-// The PIDs whose packets are dropped.
-fn dropped(alloc: Global, conf: &EditPmtConf) -> Result<PidSet, AllocError>
-    ensures { IfOk result (λ set. set ≡ dropped_pids conf.now) }
+// New steps for the place where the PMTs are.
+fn new_ways(alloc: Global, conf: &EditPmtConf) -> Result<PmtWays<PmtTables>, AllocError>
+    requires { IsValidPmt conf.now }
+    ensures rule { IfOk result (λ ways. rule_of ⟦<PmtTables as TableEdit>⟧.change ways ≡ pmt_rule conf.now) }
+    ensures fresh { IfOk result (λ ways. StandsFor ⟦<PmtTables as TableEdit>⟧.change ways []) }
 {
-    if conf.drop {
-        return PidSet::of(alloc, &conf.remove_pid);
+    let dropped = dropped(alloc, conf)?;
+    let edit = new_tables(alloc, conf)?;
+    match conf.place {
+        PmtPlace::OnPid(pid) => {
+            let on_pid = new_on_pid(alloc, pid as u16, edit, dropped, conf.stuffing)?;
+            Ok(PmtWays::OnPid(on_pid))
+        }
+        PmtPlace::OfService(service) => {
+            let of_service = new_service_steps(
+                alloc,
+                service as u16,
+                edit,
+                dropped,
+                conf.stuffing,
+            )?;
+            Ok(PmtWays::OfService(of_service))
+        }
     }
-    let none = NumberSet::of(Vec::new(alloc));
-    PidSet::of(alloc, &none)
 }

@@ -17,6 +17,7 @@ use crate::edit_words::number_up_to;
 use crate::limits::{LAST_ID, LAST_TAG, LAST_TYPE, LAST_VERSION};
 use crate::pmt_change_words::changes_of;
 use crate::pmt_conf::EditPmtConf;
+use crate::pmt_place_words::{has_place, place_in, places_agree};
 use crate::versions::versions_agree;
 use plugin_entry::{PluginHelp, PluginSettings};
 use plugin_options::{
@@ -26,14 +27,23 @@ use plugin_options::{
 use std::alloc::Global;
 
 // The options of `pmt`.
-static PMT: [OptionRow; 15] = [
+static PMT: [OptionRow; 16] = [
     OptionRow {
         word: OptionWord::Value("pmt-pid", Takes::Number(0, LAST_PID)),
         text: OptionText {
             value: "PID",
             meaning: "0 to 8191: the PID of the PMTs, whatever the PAT says of it",
             need: Need::Required,
-            beside: Beside::Any,
+            beside: Beside::Choice(1),
+        },
+    },
+    OptionRow {
+        word: OptionWord::Value("service", Takes::Number(1, LAST_ID)),
+        text: OptionText {
+            value: "S",
+            meaning: "1 to 65535: the service of the PMTs, on the PID that its first entry of the PAT in force has",
+            need: Need::Required,
+            beside: Beside::Choice(1),
         },
     },
     OptionRow {
@@ -148,7 +158,7 @@ static PMT: [OptionRow; 15] = [
         word: OptionWord::Flag("drop"),
         text: OptionText {
             value: "",
-            meaning: "with --remove-pid: drop the packets on these PIDs too, but not those on --pmt-pid",
+            meaning: "with --remove-pid: drop the packets on these PIDs too, but not those on the PID of the PMTs",
             need: Need::Free,
             beside: Beside::With("remove-pid"),
         },
@@ -168,7 +178,7 @@ static PMT: [OptionRow; 15] = [
             value: "N",
             meaning: "0 to 31: set the version",
             need: Need::Free,
-            beside: Beside::Choice(1),
+            beside: Beside::Choice(2),
         },
     },
     OptionRow {
@@ -177,7 +187,7 @@ static PMT: [OptionRow; 15] = [
             value: "",
             meaning: "count the version on, from 31 to 0",
             need: Need::Free,
-            beside: Beside::Choice(1),
+            beside: Beside::Choice(2),
         },
     },
 ];
@@ -204,13 +214,14 @@ fn moved_pids(alloc: Global, found: &ParsedOptions) -> Result<PairList, Refusal>
     found.pair_list(alloc, "move-pid", '/', (0, LAST_PID), (0, LAST_PID))
 }
 
-// Whether the options of dropped packets and of the version can be given together.
+// Whether the options of the place, of dropped packets and of the version can be given together.
 fn is_together(found: &ParsedOptions, new_version: Option<u64>) -> bool
     requires { new_version ≡ number_found (codes "new-version") LAST_VERSION found.now }
     ensures { result ≡ pmt_together found.now }
 {
     let drops = found.has_flag("drop");
-    versions_agree(new_version, found.has_flag("increment-version"))
+    places_agree(found)
+        && versions_agree(new_version, found.has_flag("increment-version"))
         && drops_agree(
             found.has_value("remove-pid"),
             drops,
@@ -230,10 +241,10 @@ fn pmt_settings(alloc: Global, found: &ParsedOptions) -> Result<EditPmtConf, Ref
     ensures reads { ReadsParsed pmt found.now result }
     ensures valid { IfOk result IsValidPmt }
 {
-    if !found.has_value("pmt-pid") {
+    if !has_place(found) {
         return Err(Refusal::Broken(WordsRule::Missing));
     }
-    let pmt_pid = found.number_or("pmt-pid", 0, LAST_PID, 0)?;
+    let place = place_in(found)?;
     let pcr_pid = number_up_to(found, "pcr-pid", LAST_PID)?;
     let new_version = number_up_to(found, "new-version", LAST_VERSION)?;
     let add_pid = added_components(alloc, found)?;
@@ -244,7 +255,7 @@ fn pmt_settings(alloc: Global, found: &ParsedOptions) -> Result<EditPmtConf, Ref
         return Err(Refusal::Broken(WordsRule::Conflict));
     }
     Ok(EditPmtConf {
-        pmt_pid,
+        place,
         add_pid,
         remove_pid,
         move_pid,
@@ -273,8 +284,8 @@ impl PluginSettings for EditPmtConf {
 
     fn help() -> PluginHelp {
         PluginHelp {
-            usage: "-P pmt --pmt-pid PID [--add-pid PID/TYPE,..] [--remove-pid LIST] [--move-pid OLD/NEW,..] [--pcr-pid PID] [--remove-descriptor LIST] [--remove-pid-descriptor PID/TAG,..] [--language PID/CODE,..] [--add-ca SYS/PID,..] [--add-descriptor HEX] [--add-pid-descriptor PID/HEX,..] [--drop [--stuffing]] [--new-version N | --increment-version]",
-            rule: "Each packet on the PID becomes the next packet of the edited PMTs, or a null packet until a table is known; the packets of the components stay as they are, unless --drop is given. Components are left out first, then the other options come in this order, and then the version. A PMT that would not fit stays as it was. A table that changes without a new version is written on as it was first.",
+            usage: "-P pmt --pmt-pid PID | --service S [--add-pid PID/TYPE,..] [--remove-pid LIST] [--move-pid OLD/NEW,..] [--pcr-pid PID] [--remove-descriptor LIST] [--remove-pid-descriptor PID/TAG,..] [--language PID/CODE,..] [--add-ca SYS/PID,..] [--add-descriptor HEX] [--add-pid-descriptor PID/HEX,..] [--drop [--stuffing]] [--new-version N | --increment-version]",
+            rule: "Each packet on the PID becomes the next packet of the edited PMTs, or a null packet until a table is known. With --service the PID is that of the service in the PAT in force, PMTs of other services there stay as they are, and where the PAT has no such service all packets pass. The packets of the components stay as they are, unless --drop is given. Components are left out first, then the other options come in this order, and then the version. A PMT that would not fit stays as it was. A table that changes without a new version is written on as it was first.",
         }
     }
 

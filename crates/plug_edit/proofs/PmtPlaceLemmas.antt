@@ -1,0 +1,34 @@
+-- The place where `pmt` edits.
+use Rattle.std.proofs.Common.{◌≡◌, ◌∙◌, ℕ, ◌≤◌, List, Option, None, Some, ap, arith, sym}
+use Rattle.std.specs.Prelude.{IfSome}
+use Rattle.chain_model.specs.PluginRule.{PluginRule, passes}
+use Rattle.plugin_trait.specs.SilentRule.{silent_rule}
+use Rattle.plug_edit.specs.Changes.{change_pmt}
+use Rattle.plug_edit.specs.PmtRule.{dropped_pids, pmt_rule, rule_at}
+use Rattle.plug_edit.specs.PmtSettings.{IsPlace}
+use Rattle.plug_edit.specs.PmtWords.{place_of}
+use Rattle.plug_edit.specs.declared.pmt_conf.EditPmtConf.{EditPmtConf}
+use Rattle.plug_edit.specs.declared.pmt_place.PmtPlace.{PmtPlace}
+
+-- numbers in their ranges make a place
+pub is-place : (service : Option ℕ) (pid : ℕ) → IfSome service (λ k. (1 ≤ k) × (k ≤ 65535)) → pid ≤ 8191 → IsPlace (place_of service pid)
+is-place None pid h below = record {
+  on_pid = λ p e. let same : pid ≡ p = cc e in omega (arith, below, same);
+  of_service = λ s e. absurd (cc e);
+}
+is-place (Some service) pid h below = record {
+  on_pid = λ p e. absurd (cc e);
+  of_service = λ s e. let same : service ≡ s = cc e in (omega (arith, h.0, same), omega (arith, h.1, same));
+}
+
+-- what becomes of a packet, and whether a run has a fault, by a rule, as the rule of the steps has it
+abbrev pub silenced : PluginRule → PluginRule
+silenced rule = record (silent_rule (λ history packet. passes packet)) { outcome_of = rule.outcome_of; has_fault = rule.has_fault }
+
+-- equal parts make the rule of the settings
+pub rule_named : (conf held : EditPmtConf) (place : PmtPlace) (dropped : List (ℕ × ℕ)) → held ≡ conf → conf.place ≡ place → dropped ≡ dropped_pids conf →
+    rule_at place (change_pmt held) dropped conf.stuffing ≡ pmt_rule conf
+rule_named conf held place dropped e f g =
+    ap (λ it. rule_at place (change_pmt it) dropped conf.stuffing) e
+    ∙ ap (λ d. rule_at place (change_pmt conf) d conf.stuffing) g
+    ∙ ap (λ p. rule_at p (change_pmt conf) (dropped_pids conf) conf.stuffing) (sym f)
