@@ -1,11 +1,11 @@
 -- A flow that meets packets.
-use Rattle.std.proofs.Common.{◌≡◌, ℕ, Bool, false, List, [], ◌∷◌, ◌++◌, length, drop, Option, refl, sym, ◌∙◌, ap, append_assoc, append-nil, subst}
-use Rattle.std.specs.List.{filter_map, cons_option}
+use Rattle.std.proofs.Common.{◌≡◌, ℕ, Bool, false, ◌||◌, List, [], ◌∷◌, ◌++◌, length, drop, Option, refl, sym, ◌∙◌, ap, append_assoc, append-nil, subst}
+use Rattle.std.specs.List.{filter_map, list_any, cons_option}
 use Rattle.ts_demux.specs.DemuxState as demuxing
 use Rattle.ts_demux.specs.DemuxState.{DemuxState, TakesIn}
 use Rattle.ts_demux.specs.SectionsOfPid.{sections_of_pid}
 use Rattle.ts_demux.proofs.TablesAfter.{no_sections}
-use Rattle.section_flow.specs.Flow.{Edit, Waiting, nothing_waits, with_sections, given_for, completed_by, ready_with, given_after, waiting_from, waiting_after, replaced}
+use Rattle.section_flow.specs.Flow.{Edit, alters, is_altered, Waiting, nothing_waits, with_sections, given_for, completed_by, ready_with, given_after, waiting_from, waiting_after, replaced}
 use Rattle.section_flow.specs.FlowState.{PackingState, Holds, Joins, Puts}
 use Rattle.section_flow.specs.FlowStands.{HasMet, SameEdit}
 
@@ -48,6 +48,11 @@ same_ready : (now wanted : List ℕ → Option (List ℕ)) → SameEdit now want
 same_ready now wanted same [] = refl
 same_ready now wanted same (s ∷ ss) = ap (λ o. cons_option o (filter_map now ss)) (same s) ∙ ap (λ t. cons_option (wanted s) t) (same_ready now wanted same ss)
 
+same_altered : (now wanted : List ℕ → Option (List ℕ)) → SameEdit now wanted → (ss : List (List ℕ)) → list_any (alters now) ss ≡ list_any (alters wanted) ss
+same_altered now wanted same [] = refl
+same_altered now wanted same (s ∷ ss) =
+    ap (λ o. is_altered s o || list_any (alters now) ss) (same s) ∙ ap (λ t. alters wanted s || t) (same_altered now wanted same ss)
+
 pub replaced-is : (pid : ℕ) (edit : Edit) (met : List (List ℕ)) (packet : List ℕ) → replaced pid edit met packet ≡ (given_after pid edit met (waiting_after pid edit met) packet).packet
 unfolding replaced
 replaced-is pid edit met packet = refl
@@ -65,6 +70,11 @@ module _
 
   ready : filter_map now fed.waiting ≡ ready_with pid wanted met packet
   ready = same_ready now (wanted (met ++ packet ∷ [])) same fed.waiting ∙ ap (filter_map (wanted (met ++ packet ∷ []))) (sym completed)
+
+  pub meets-altered : (altered : Bool) → altered ≡ list_any (alters now) fed.waiting →
+      altered ≡ list_any (alters (wanted (met ++ packet ∷ []))) (completed_by pid met packet)
+  meets-altered altered is =
+      is ∙ same_altered now (wanted (met ++ packet ∷ [])) same fed.waiting ∙ ap (list_any (alters (wanted (met ++ packet ∷ [])))) (sym completed)
 
   holds : Holds held joined_waiting
   unfolding joined_waiting waiting_from

@@ -1,8 +1,9 @@
 -- Sections that are taken from a demultiplexer and edited, one by one.
-use Rattle.std.proofs.Common.{◌≡◌, ℕ, List, [], ◌∷◌, ◌++◌, Option, Some, None, sym, ◌∙◌, ap, append_assoc}
+use Rattle.std.proofs.Common.{◌≡◌, ℕ, Bool, true, false, ◌||◌, refl, List, [], ◌∷◌, ◌++◌, Option, Some, None, sym, ◌∙◌, ap, append_assoc}
 use Rattle.std.specs.Option.{option_to_list}
-use Rattle.std.specs.List.{filter_map}
+use Rattle.std.specs.List.{filter_map, list_any}
 use Rattle.ts_demux.specs.DemuxState.{DemuxState, StandsFor, GivesFirst}
+use Rattle.section_flow.specs.Flow.{alters}
 use Rattle.section_flow.specs.FlowState.{PackingState, Joins}
 
 -- What was edited so far, and what becomes of the sections that wait still, is what becomes of all that waited; and the
@@ -36,3 +37,33 @@ took-more edit first now next before held after section new gives made joins too
       ∙ took.joined;
   stands = λ pid fed given h. let t = took.stands pid fed given h in (t.0 ++ section ∷ [], gives.stands pid fed t.0 t.1);
 }
+
+-- Whether one of those so far was altered, or one that waits still will be, is whether one of all that waited is.
+pub record AlteredSoFar (edit : List ℕ → Option (List ℕ)) (first now : DemuxState) (so_far : Bool) : Type 0 where
+  pub same : (so_far || list_any (alters edit) now.waiting) ≡ list_any (alters edit) first.waiting
+
+or-later : (a b c : Bool) → ((a || b) || c) ≡ (a || (b || c))
+or-later true b c = refl
+or-later false b c = refl
+
+pub altered-more :
+    (edit : List ℕ → Option (List ℕ)) (first now next : DemuxState) (section : List ℕ) (so_far one both : Bool) →
+    GivesFirst now next section → one ≡ alters edit section → both ≡ (so_far || one) →
+    AlteredSoFar edit first now so_far → AlteredSoFar edit first next both
+altered-more edit first now next section so_far one both gives is either seen = record {
+  same =
+      ap (λ b. b || list_any (alters edit) next.waiting) (either ∙ ap (λ b. so_far || b) is)
+      ∙ or-later so_far (alters edit section) (list_any (alters edit) next.waiting)
+      ∙ ap (λ t. so_far || list_any (alters edit) t) (sym gives.first)
+      ∙ seen.same;
+}
+
+or-none : (a : Bool) → (a || false) ≡ a
+or-none true = refl
+or-none false = refl
+
+-- where nothing waits any more
+pub altered-all : (edit : List ℕ → Option (List ℕ)) (first now : DemuxState) (so_far : Bool) → now.waiting ≡ [] →
+    AlteredSoFar edit first now so_far → so_far ≡ list_any (alters edit) first.waiting
+altered-all edit first now so_far none seen =
+    sym (or-none so_far) ∙ ap (λ t. so_far || list_any (alters edit) t) (sym none) ∙ seen.same

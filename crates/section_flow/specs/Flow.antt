@@ -3,7 +3,7 @@
 -- begins. This project's own rule: each packet of the PID gives way to the next one of the packing of the edited sections,
 -- each of which is given once, from the packet with which it is complete on; where none waits, to a null packet. A
 -- scrambled packet passes.
-use Rattle.std.specs.Prelude.{◌≡◌, ℕ, ◌+◌, ◌%◌, ◌==◌, Bool, true, List, [], ◌∷◌, ◌++◌, length, drop, Option, Some, if◌then◌else◌}
+use Rattle.std.specs.Prelude.{◌≡◌, ℕ, ◌+◌, ◌%◌, ◌==◌, Bool, true, bytes_eq, not, List, [], ◌∷◌, ◌++◌, length, drop, Option, Some, None, if◌then◌else◌}
 use Rattle.std.specs.List.{filter_map}
 use Rattle.ts_packet.specs.Header.{pid_of, scrambling_of, has_payload_of}
 use Rattle.ts_packet.specs.Packet.{null_packet}
@@ -17,6 +17,15 @@ use Rattle.plug_inject.specs.Counted.{counted_on}
 -- another one, or none.
 abbrev pub Edit : Type 0
 Edit = List (List ℕ) → List ℕ → Option (List ℕ)
+
+-- something else, or nothing, becomes of a section
+abbrev pub is_altered : List ℕ → Option (List ℕ) → Bool
+is_altered section None = true
+is_altered section (Some new) = not (bytes_eq new section)
+
+-- the same by what becomes of all sections
+abbrev pub alters : (List ℕ → Option (List ℕ)) → List ℕ → Bool
+alters now section = is_altered section (now section)
 
 -- What waits between two packets: the bytes that are left of a section that has begun, and the sections that have not.
 -- The number is that of the packets with a payload that left on the PID.

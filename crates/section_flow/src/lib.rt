@@ -11,6 +11,6 @@ mod next;
 mod packing;
 mod room;
 
-pub use edit::SectionEdit;
+pub use edit::{SectionChange, SectionEdit};
 pub use flow::Flow;
 pub use laws::{each_place_by_itself, edited_sections_are_read, other_packets_are_untouched};
