@@ -1,0 +1,7 @@
+mod TextCutLemmas
+mod EventStartLemmas
+mod EventsLemmas
+mod Taking
+mod WordsLemmas
+mod Rows
+mod SectionRows
