@@ -1,0 +1,4 @@
+pub mod Numbers
+pub mod Rowing
+pub mod Searching
+mod Rows

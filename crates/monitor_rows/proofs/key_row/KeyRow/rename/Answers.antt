@@ -1,0 +1,8 @@
+use Rattle.std.proofs.Common.{refl}
+use Rattle.monitor_rows.proofs.Rowing.{renamed}
+use Rattle.monitor_rows.proofs.key_row.KeyRow.rename.Goals as goal
+
+pub returns : goal.returns
+returns c = λ rule history packet labels has here are.
+    renamed rule c.args.self.now _ history packet labels c.args.numbers.now has refl are c.in_ok-self.ensures.numbers
+    (c.in_ok-self.ensures.each rule history packet labels has here are)

@@ -1,0 +1,3 @@
+-- The definitions of rows of keys that tables ask for.
+pub mod KeyRows
+pub mod RowStands

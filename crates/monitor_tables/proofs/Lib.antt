@@ -1,0 +1,2 @@
+pub mod Giving
+mod Rows
