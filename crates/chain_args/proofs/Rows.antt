@@ -1,5 +1,5 @@
 -- Worked rows of words, on the definitions alone.
-use Rattle.std.proofs.Common.{None, ◌≡◌, [], ◌∷◌, Some, codes, false, refl}
+use Rattle.std.proofs.Common.{None, ◌≡◌, [], ◌∷◌, Some, codes, false, true, refl}
 use Rattle.clap.proofs.OnLiterals.{clap_on_literals}
 use Rattle.plugin_set.specs.declared.plugin_conf.PluginConf.TheVariants.{Filter}
 use Rattle.plugin_options.specs.Number.{number_of, number_within}
@@ -53,6 +53,8 @@ hexadecimal-pid : plan_of (codes "-I" ∷ codes "null" ∷ codes "4" ∷ codes "
           stuffing = false;
           set_label = (3, 3) ∷ [];
         });
+        every = None;
+        counts = true;
         only = Some ((0, 1) ∷ []);
       } ∷ [];
       output = Drop;

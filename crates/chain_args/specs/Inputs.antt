@@ -1,4 +1,4 @@
--- The inputs: `file [NAME] [--format F]`, `null N` and `testgen SEED N`.
+-- The inputs: `file [NAME] [--format F] [--resync]`, `null N` and `testgen SEED N`.
 -- This project's own rule.
 use Rattle.std.specs.Prelude.{ℕ, ◌&&◌, Bool, is_some, List, [], ◌∷◌, None, Option, Some, codes, if◌then◌else◌, true, unwrap_or}
 use Rattle.std.specs.Str.{bytes_eq}
@@ -7,7 +7,7 @@ use Rattle.packet_forms.specs.declared.forms.Form.{Form}
 use Rattle.packet_forms.specs.declared.forms.Form.TheVariants.{Ts, M2ts, Rs204}
 use Rattle.plugin_options.specs.Forms.{known, number, text}
 use Rattle.plugin_options.specs.Number.{number_within}
-use Rattle.plugin_options.specs.Options.{has_value, operand, read_value, value, value_of}
+use Rattle.plugin_options.specs.Options.{flag, has_flag, has_value, operand, read_value, value, value_of}
 use Rattle.plugin_options.specs.OptionTable.{OptionTable}
 use Rattle.chain_args.specs.declared.input_conf.TheConstants.{MOST_SEED}
 use Rattle.chain_args.specs.declared.input_words.InputKind.{InputKind}
@@ -24,17 +24,19 @@ form_named name = if bytes_eq name (codes "ts") then Some Ts
 abbrev pub is_form : List ℕ → Bool
 is_form name = is_some (form_named name)
 
--- `file`: a name, standard input where it is empty or not given; and the form of the packets in the file, bare
--- packets where it is not given
+-- `file`: a name, standard input where it is empty or not given; the form of the packets in the file, bare packets where
+-- it is not given; and whether they are found again
 abbrev pub file_input : OptionTable InputConf
 file_input = record {
   rows = record { name = codes "name"; kind = operand text }
       ∷ record { name = codes "format"; kind = value (known is_form) }
+      ∷ record { name = codes "resync"; kind = flag }
       ∷ [];
   has_needed = λ found. true;
   settings = λ found.
       File (unwrap_or (value_of (codes "name") found) [])
-      (unwrap_or (read_value form_named (codes "format") found) Ts);
+      (unwrap_or (read_value form_named (codes "format") found) Ts)
+      (has_flag (codes "resync") found);
   go_together = λ found. true;
 }
 

@@ -1,6 +1,6 @@
 -- The parts of a plan while the segments of a command line are read.
 -- This project's own rule.
-use Rattle.std.specs.Prelude.{◌≡◌, ◌≤◌, ℕ, List, [], Option, Some, IfSome, count_by, is_some, length, slice_get, unwrap_or}
+use Rattle.std.specs.Prelude.{◌≡◌, ◌≤◌, ℕ, false, List, [], Option, Some, IfSome, count_by, is_some, length, slice_get, unwrap_or}
 use Rattle.std.specs.List.{All, list_any}
 use Rattle.plugin_set.specs.Items.{IsValidItem}
 use Rattle.chain_args.specs.ValidPlan.{IsValidInput}
@@ -42,7 +42,7 @@ pub record StandsFor (p : PlanBuilder) (before : List Segment) : Type 0 where
 abbrev pub parts_plan : GeneralConf → PlanBuilder → Plan
 parts_plan general p = record {
   general = general;
-  input = unwrap_or p.input (File [] Ts);
+  input = unwrap_or p.input (File [] Ts false);
   plugins = p.plugins.items;
   output = unwrap_or p.output (output.File []);
 }

@@ -1,6 +1,6 @@
 -- The plan of the words.
 -- This project's own rule.
-use Rattle.std.specs.Prelude.{ℕ, List, [], None, Option, Some, if◌then◌else◌, is_some, option_map, slice_get, unwrap_or}
+use Rattle.std.specs.Prelude.{ℕ, false, List, [], None, Option, Some, if◌then◌else◌, is_some, option_map, slice_get, unwrap_or}
 use Rattle.std.specs.List.{filter_map}
 use Rattle.plugin_set.specs.declared.plugin_item.PluginItem.{PluginItem}
 use Rattle.chain_args.specs.General.{general}
@@ -41,7 +41,7 @@ outputs_of = filter_map output_made
 abbrev pub plan_made : List (List ℕ) → Plan
 plan_made words = record {
   general = settings_of general (general_words words);
-  input = unwrap_or (slice_get (inputs_of (segments words)) 0) (File [] Ts);
+  input = unwrap_or (slice_get (inputs_of (segments words)) 0) (File [] Ts false);
   plugins = plugins_of (segments words);
   output = unwrap_or (slice_get (outputs_of (segments words)) 0) (output.File []);
 }

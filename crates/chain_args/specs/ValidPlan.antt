@@ -27,7 +27,7 @@ pub record IsValidGeneral (c : GeneralConf) : Type 0 where
 
 -- `null` and `testgen` have at most 2^40 packets
 abbrev pub IsValidInput : InputConf → Type 0
-IsValidInput (File name form) = Unit {0}
+IsValidInput (File name form resync) = Unit {0}
 IsValidInput (Null count) = count ≤ MOST_PACKETS
 IsValidInput (TestGen seed count) = count ≤ MOST_PACKETS
 

@@ -53,13 +53,13 @@ impl InputKind {
     }
 }
 
-// The operand and the option of `file`.
-static FILE: [OptionRow; 2] = [
+// The operand and the options of `file`.
+static FILE: [OptionRow; 3] = [
     OptionRow {
         word: OptionWord::Operand("name", Takes::Text),
         text: OptionText {
             value: "NAME",
-            meaning: "the file; without a name, standard input (the default). F says how it keeps its packets: ts, alone (the default); m2ts, each after four other bytes, as a Blu-ray disc does; rs204, each before sixteen other bytes, as receivers with Reed-Solomon codes do",
+            meaning: "the file; without a name, standard input (the default). F says how it keeps its packets: ts, alone (the default); m2ts, each after four other bytes, as a Blu-ray disc does; rs204, each before sixteen other bytes, as receivers with Reed-Solomon codes do; --resync: its packets are found again where it is damaged, and what is left out is reported",
             need: Need::Free,
             beside: Beside::Any,
         },
@@ -68,7 +68,16 @@ static FILE: [OptionRow; 2] = [
         word: OptionWord::Value("format", Takes::Choice(&["ts", "m2ts", "rs204"])),
         text: OptionText {
             value: "F",
-            meaning: "the file; without a name, standard input (the default). F says how it keeps its packets: ts, alone (the default); m2ts, each after four other bytes, as a Blu-ray disc does; rs204, each before sixteen other bytes, as receivers with Reed-Solomon codes do",
+            meaning: "the file; without a name, standard input (the default). F says how it keeps its packets: ts, alone (the default); m2ts, each after four other bytes, as a Blu-ray disc does; rs204, each before sixteen other bytes, as receivers with Reed-Solomon codes do; --resync: its packets are found again where it is damaged, and what is left out is reported",
+            need: Need::Free,
+            beside: Beside::Any,
+        },
+    },
+    OptionRow {
+        word: OptionWord::Flag("resync"),
+        text: OptionText {
+            value: "",
+            meaning: "the file; without a name, standard input (the default). F says how it keeps its packets: ts, alone (the default); m2ts, each after four other bytes, as a Blu-ray disc does; rs204, each before sixteen other bytes, as receivers with Reed-Solomon codes do; --resync: its packets are found again where it is damaged, and what is left out is reported",
             need: Need::Free,
             beside: Beside::Any,
         },
@@ -91,6 +100,7 @@ fn file_settings(alloc: Global, found: &ParsedOptions) -> Result<InputConf, Refu
     Ok(InputConf::File {
         name: found.text(alloc, "name")?,
         form,
+        resync: found.has_flag("resync"),
     })
 }
 
@@ -176,8 +186,8 @@ fn file_help() -> SegmentHelp {
     SegmentHelp {
         first: "-I",
         name: "file",
-        usage: "-I file [NAME] [--format F]",
-        rule: "the file; without a name, standard input (the default). F says how it keeps its packets: ts, alone (the default); m2ts, each after four other bytes, as a Blu-ray disc does; rs204, each before sixteen other bytes, as receivers with Reed-Solomon codes do",
+        usage: "-I file [NAME] [--format F] [--resync]",
+        rule: "the file; without a name, standard input (the default). F says how it keeps its packets: ts, alone (the default); m2ts, each after four other bytes, as a Blu-ray disc does; rs204, each before sixteen other bytes, as receivers with Reed-Solomon codes do; --resync: its packets are found again where it is damaged, and what is left out is reported",
         options: &FILE,
     }
 }

@@ -136,6 +136,7 @@ impl PlanBuilder {
                 None => InputConf::File {
                     name: NameText::of(String::new(alloc)),
                     form: Form::Ts,
+                    resync: false,
                 },
             },
             plugins: PluginList::of(plugins),

@@ -5,10 +5,10 @@
 use chain_args::{general_help, input_helps, output_helps};
 use explain_words::{HelpTable, SegmentRow};
 use plugin_options::SegmentHelp;
-use plugin_set::{PluginKind, only_label};
+use plugin_set::{PluginKind, further_options};
 use std::alloc::{AllocError, Global};
 
-// A plugin, with the option that every plugin has after its own.
+// A plugin, with the options that plugins share after its own.
 fn plugin_row(alloc: Global, kind: PluginKind) -> Result<SegmentRow, AllocError> {
     let help = kind.help();
     let own = SegmentHelp {
@@ -18,7 +18,7 @@ fn plugin_row(alloc: Global, kind: PluginKind) -> Result<SegmentRow, AllocError>
         rule: help.rule,
         options: kind.options(),
     };
-    SegmentRow::of(alloc, &own, &[only_label()])
+    SegmentRow::of(alloc, &own, further_options(kind.has_summary()))
 }
 
 // Appends segments without further options.

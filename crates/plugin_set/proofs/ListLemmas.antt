@@ -8,7 +8,10 @@ use Rattle.chain_model.specs.SeenCells.{seen}
 use Rattle.plugin_trait.specs.PlacedLines.{IsSilent}
 use Rattle.plugin_options.specs.LabelSet.{label_set}
 use Rattle.plug_end.specs.UntilRule.{is_reached}
-use Rattle.plugin_set.specs.Items.{rule_of_item}
+use Rattle.std.proofs.lemmas.Bool.{both_ways}
+use Rattle.plug_every.specs.EveryRule.{rule_every}
+use Rattle.plug_every.specs.EveryStands.{silent_every}
+use Rattle.plugin_set.specs.Items.{is_silent_item, rule_of_item}
 use Rattle.plugin_set.specs.OnlyLabels.{rule_for}
 use Rattle.plugin_set.proofs.SilentRules.{silent_rule_of}
 use Rattle.plugin_set.specs.declared.plugin_item.PluginItem.{PluginItem}
@@ -37,6 +40,12 @@ silent_rule_for (Some only) rule silent = record {
   no_summary = λ history. silent.no_summary (seen only history);
 }
 
-pub silent_item : (item : PluginItem) (sections : List (List ℕ)) → is_silent item.conf ≡ true → IsSilent (rule_of_item item sections)
+silent_every_rule : (every : Option ℕ) (counts silent : Bool) (rule : PluginRule) → silent_every every silent ≡ true → (silent ≡ true → IsSilent rule)
+    → IsSilent (rule_every every counts rule)
+silent_every_rule None counts silent rule is known = known is
+silent_every_rule (Some n) counts silent rule is known = absurd (both_ways false refl is)
+
+pub silent_item : (item : PluginItem) (sections : List (List ℕ)) → is_silent_item item ≡ true → IsSilent (rule_of_item item sections)
 silent_item item sections silent =
-    silent_rule_for (option_map label_set item.only) (rule_of item.conf sections) (silent_rule_of item.conf sections silent)
+    silent_rule_for (option_map label_set item.only) (rule_every item.every item.counts (rule_of item.conf sections))
+    (silent_every_rule item.every item.counts (is_silent item.conf) (rule_of item.conf sections) silent (silent_rule_of item.conf sections))

@@ -1,6 +1,6 @@
 -- The set of all plugins: their names, their options, which settings are valid, and their rules. What is said of each is in
 -- its own crate. This project's own rule. Written by tools/plugins from plugins.txt.
-use Rattle.std.specs.Prelude.{ℕ, List, [], ◌∷◌, Bool, Option, find}
+use Rattle.std.specs.Prelude.{ℕ, List, [], ◌∷◌, Bool, true, false, Option, find}
 use Rattle.std.specs.Str.{bytes_eq}
 use Rattle.chain_model.specs.PluginRule.{PluginRule}
 use Rattle.plugin_options.specs.OptionTable.{OptionTable}
@@ -135,6 +135,17 @@ plugin_kind_named name = find (λ k. bytes_eq name (name_of_kind k)) kinds
 -- the options of a kind
 abbrev pub options_of_plugin : PluginKind → OptionTable PluginConf
 options_of_plugin k = (kind_entry k).options
+
+-- the plugin has a summary, and so the option `--every`
+abbrev pub has_summary : PluginKind → Bool
+has_summary kind.Count = true
+has_summary kind.Continuity = true
+has_summary kind.Analyze = true
+has_summary kind.Info = true
+has_summary kind.Pcrverify = true
+has_summary kind.Timestamps = true
+has_summary kind.Rate = true
+has_summary _ = false
 
 -- the kind of plugin to which settings belong
 abbrev pub kind_of : PluginConf → PluginKind

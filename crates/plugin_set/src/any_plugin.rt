@@ -1,21 +1,22 @@
 //! A plugin of the chain, of any kind and with its labels.
 //!
-//! A plugin of a chain is three types, one in the other. `SomePlugin` is one of the plugins that there are: its methods
-//! ask which one it is, and their proofs are by cases. `MaskedPlugin` shows any plugin only the cells that it is to
-//! see, and is proved once, from the clauses of `Plugin`. `AnyPlugin` is the type that the layers above name: it has no
+//! A plugin of a chain is four types, one in the other. `SomePlugin` is one of the plugins that there are: its methods
+//! ask which one it is, and their proofs are by cases. `MaybeEvery` gives the summary of any plugin so far too, where that
+//! is asked for, and `MaskedPlugin` shows any plugin only the cells that it is to see; so what is counted is what the plugin
+//! sees. Both are proved once, from the clauses of `Plugin`. `AnyPlugin` is the type that the layers above name: it has no
 //! parameter, its constructor says which rule an item means, and it gives a plugin that sees every packet the whole
 //! window in one call. Without it each function above would name the nested type, and its proof would write out what
 //! that type's bound means.
 
 ghost use Rattle.std.specs.Prelude.{◌≡◌, IfOk, []};
-ghost use Rattle.plugin_set.specs.Items.{rule_of_item};
-ghost use Rattle.plugin_set.specs.Plugins.{is_silent, preallocated_of};
+ghost use Rattle.plugin_set.specs.Items.{is_silent_item, preallocated_of_item, rule_of_item};
 
 use crate::idle::{Idle, why_idle};
 use crate::masked_plugin::MaskedPlugin;
 use crate::plugin_item::PluginItem;
 use crate::sees_tables::{SeesTables, add_changes};
 use crate::some_plugin::SomePlugin;
+use plug_every::MaybeEvery;
 use plug_psi::Changes;
 use plugin_trait::{Applied, Line, Outcome, Plugin};
 use std::alloc::{AllocError, Global};
@@ -25,7 +26,7 @@ use ts_section::Section;
 /// A plugin of the chain. It sees every packet, or only those that have one of its labels.
 #[derive(Drop)]
 pub struct AnyPlugin {
-    masked: MaskedPlugin<SomePlugin>,
+    masked: MaskedPlugin<MaybeEvery<SomePlugin>>,
 }
 
 impl AnyPlugin {
@@ -33,7 +34,7 @@ impl AnyPlugin {
 
     /// The plugin of this item before any cell. `sections` are those of the file that its settings name
     /// (`table_file`); where they name none, they are not used. `buffer` is the number of positions that the chain
-    /// holds; a plugin for which `preallocated_of` gives that number allocates its memory for so many positions after the
+    /// holds; a plugin for which `preallocated_of_item` gives that number allocates its memory for so many positions after the
     /// greatest mark here.
     pub fn of(
         alloc: Global,
@@ -44,12 +45,14 @@ impl AnyPlugin {
         requires { IsValidItem item.now }
         ensures rule { IfOk result (λ plugin. ⟦<AnyPlugin as Plugin>⟧.rule plugin ≡ rule_of_item item.now sections.items) }
         ensures fresh { IfOk result (λ plugin. ⟦<AnyPlugin as Plugin>⟧.stands_for plugin [] 0) }
-        ensures preallocated { IfOk result (λ plugin. ⟦<AnyPlugin as Plugin>⟧.preallocated plugin ≡ preallocated_of item.now.conf buffer) }
-        ensures silent { IfOk result (λ plugin. ⟦<AnyPlugin as Plugin>⟧.silent plugin ≡ is_silent item.now.conf) }
+        ensures preallocated { IfOk result (λ plugin. ⟦<AnyPlugin as Plugin>⟧.preallocated plugin ≡ preallocated_of_item item.now buffer) }
+        ensures silent { IfOk result (λ plugin. ⟦<AnyPlugin as Plugin>⟧.silent plugin ≡ is_silent_item item.now) }
     {
+        let some = SomePlugin::of(alloc, &item.conf, sections, buffer)?;
+        let plugin = MaybeEvery::of(alloc, some, item.every, item.counts, buffer)?;
         Ok(AnyPlugin {
             masked: MaskedPlugin {
-                plugin: SomePlugin::of(alloc, &item.conf, sections, buffer)?,
+                plugin,
                 only: item.labels(),
             },
         })
@@ -58,27 +61,28 @@ impl AnyPlugin {
     /// Why the plugin was idle in all packets that it was shown; `None` where it was not, or where its kind edits,
     /// inserts and reads nothing. It is asked before the report.
     pub fn idle(&self) -> Result<Option<Idle>, AllocError> {
-        why_idle(&self.masked.plugin)
+        why_idle(self.masked.plugin.plugin())
     }
 }
 
 impl SeesTables for AnyPlugin {
     fn add_changes(&self, changes: &mut Changes) -> Result<(), AllocError> {
-        add_changes(&self.masked.plugin, changes)
+        add_changes(self.masked.plugin.plugin(), changes)
     }
 }
 
 impl Plugin for AnyPlugin {
     ghost use Rattle.plugin_set.specs.contracts.some_plugin.SomePluginPlugin.TheImpl.Laws.{lawful as some_laws};
+    ghost use Rattle.plug_every.specs.EveryStands.{opens_maybe};
     ghost use Rattle.plugin_set.specs.OnlyLabels.{shown, starts_open_for};
 
-    ghost rule = { λ s. ⟦<MaskedPlugin<SomePlugin> as Plugin>⟧.rule s.masked };
+    ghost rule = { λ s. ⟦<MaskedPlugin<MaybeEvery<SomePlugin>> as Plugin>⟧.rule s.masked };
 
-    ghost stands_for = { λ s. ⟦<MaskedPlugin<SomePlugin> as Plugin>⟧.stands_for s.masked };
+    ghost stands_for = { λ s. ⟦<MaskedPlugin<MaybeEvery<SomePlugin>> as Plugin>⟧.stands_for s.masked };
 
-    ghost preallocated = { λ s. ⟦<MaskedPlugin<SomePlugin> as Plugin>⟧.preallocated s.masked };
+    ghost preallocated = { λ s. ⟦<MaskedPlugin<MaybeEvery<SomePlugin>> as Plugin>⟧.preallocated s.masked };
 
-    ghost silent = { λ s. ⟦<MaskedPlugin<SomePlugin> as Plugin>⟧.silent s.masked };
+    ghost silent = { λ s. ⟦<MaskedPlugin<MaybeEvery<SomePlugin>> as Plugin>⟧.silent s.masked };
 
     fn step(&mut self, at: u64, packet: &mut Packet, labels: &mut Labels) -> Outcome {
         self.masked.step(at, packet, labels)
@@ -113,6 +117,7 @@ impl Plugin for AnyPlugin {
     }
 
     ghost starts_open = { λ plugin history mark stands. starts_open_for plugin.masked.only
-        (⟦<SomePlugin as Plugin>⟧.rule plugin.masked.plugin)
-        (some_laws.starts_open plugin.masked.plugin (shown plugin.masked.only history) mark stands) };
+        (⟦<MaybeEvery<SomePlugin> as Plugin>⟧.rule plugin.masked.plugin)
+        (opens_maybe ⟦<SomePlugin as Plugin>⟧.rule ⟦<SomePlugin as Plugin>⟧.stands_for some_laws.starts_open
+        plugin.masked.plugin (shown plugin.masked.only history) mark stands) };
 }

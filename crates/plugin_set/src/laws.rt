@@ -3,8 +3,8 @@ ghost use Rattle.std.specs.Prelude.{◌≡◌, ℕ, List, None, false, true};
 ghost use Rattle.ts_packet.specs.declared.cell.Cell.{Cell};
 ghost use Rattle.plugin_set.specs.declared.plugin_conf.PluginConf.{PluginConf};
 ghost use Rattle.plugin_trait.specs.PlacedLines.{IsSilent};
-ghost use Rattle.plugin_set.specs.Items.{rule_of_item};
-ghost use Rattle.plugin_set.specs.Plugins.{is_silent, rule_of, table_file_of, uses_joint};
+ghost use Rattle.plugin_set.specs.Items.{is_silent_item, rule_of_item};
+ghost use Rattle.plugin_set.specs.Plugins.{rule_of, table_file_of, uses_joint};
 ghost use Rattle.plugin_set.specs.declared.plugin_item.PluginItem.{PluginItem};
 
 /// A plugin that does not use joint termination never agrees to a common end. A law; it runs nothing.
@@ -19,9 +19,9 @@ pub fn only_named_sections_count()
         → table_file_of conf ≡ None → rule_of conf one ≡ rule_of conf other }
 {}
 
-/// A silent plugin (`is_silent`) has a rule with neither lines nor a summary, whether it uses labels or not. Its `note`
+/// A silent plugin (`is_silent_item`) has a rule with neither lines nor a summary, whether it uses labels or not. Its `note`
 /// and its `summary` are `Ok`, since `AnyPlugin::of` makes it silent. A law; it runs nothing.
 pub fn silent_plugins_report_nothing()
     ensures { (item : PluginItem) (sections : List (List ℕ))
-        → is_silent item.conf ≡ true → IsSilent (rule_of_item item sections) }
+        → is_silent_item item ≡ true → IsSilent (rule_of_item item sections) }
 {}

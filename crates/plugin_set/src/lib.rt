@@ -10,6 +10,7 @@ mod plugin_conf;
 mod plugin_item;
 mod reading;
 mod sees_tables;
+mod shared_options;
 mod some_plugin;
 
 pub use any_plugin::AnyPlugin;
@@ -18,5 +19,5 @@ pub use laws::{only_joint_agrees, only_named_sections_count, silent_plugins_repo
 pub use plug_psi::{ChangedOn, Changes};
 pub use plugin_conf::{PluginConf, PluginKind};
 pub use plugin_item::PluginItem;
-pub use reading::only_label;
 pub use sees_tables::SeesTables;
+pub use shared_options::further_options;

@@ -2,7 +2,7 @@
 ghost use Rattle.std.specs.Prelude.{◌≡◌, IfOk, option_map};
 ghost use Rattle.plugin_options.specs.OptionWords.{rows_of_options};
 ghost use Rattle.plugin_options.specs.Refusal.{ReadsParsed};
-ghost use Rattle.plugin_set.specs.Plugins.{IsValid, kind_of, name_of, name_of_kind, options_of_plugin, table_file_of, uses_joint};
+ghost use Rattle.plugin_set.specs.Plugins.{IsValid, has_summary, kind_of, name_of, name_of_kind, options_of_plugin, table_file_of, uses_joint};
 
 use plug_analyze::AnalyzeConf;
 use plug_edit::{EditCatConf, EditNitConf, EditPatConf, EditPmtConf, EditSdtConf};
@@ -231,6 +231,40 @@ impl PluginKind {
         ensures { rows_of_options result.now ≡ (options_of_plugin self).rows }
     {
         of_kind!(self, options())
+    }
+
+    /// Whether the plugin has a summary, and so the option `--every`.
+    pub fn has_summary(self) -> bool
+        ensures { result ≡ has_summary self }
+    {
+        match self {
+            PluginKind::Filter => false,
+            PluginKind::Skip => false,
+            PluginKind::Slice => false,
+            PluginKind::Pattern => false,
+            PluginKind::Until => false,
+            PluginKind::Count => true,
+            PluginKind::Continuity => true,
+            PluginKind::Remap => false,
+            PluginKind::Inject => false,
+            PluginKind::Pat => false,
+            PluginKind::Cat => false,
+            PluginKind::Pmt => false,
+            PluginKind::Sdt => false,
+            PluginKind::Nit => false,
+            PluginKind::Time => false,
+            PluginKind::Zap => false,
+            PluginKind::Svremove => false,
+            PluginKind::Analyze => true,
+            PluginKind::Info => true,
+            PluginKind::Tables => false,
+            PluginKind::Compact => false,
+            PluginKind::Rmorphan => false,
+            PluginKind::Pcrverify => true,
+            PluginKind::Timestamps => true,
+            PluginKind::Rate => true,
+            PluginKind::Restuff => false,
+        }
     }
 
     /// What is said of it beside its options.

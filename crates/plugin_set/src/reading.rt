@@ -1,45 +1,23 @@
-//! How the words of a plugin are read: its own options and `--only-label`.
-ghost use Rattle.std.specs.Prelude.{◌≡◌, Err, IfOk, IfSome, MatchResult, Ok, codes, false, find, map, true};
+//! How the words of a plugin are read: its own options and those that plugins share.
+ghost use Rattle.std.specs.Prelude.{◌≡◌, ◌≤◌, Err, IfOk, IfSome, MatchResult, None, Ok, codes, find, map};
 ghost use Rattle.std.specs.Str.{bytes_eq};
 ghost use Rattle.std.specs.String.{string_bytes};
 ghost use Rattle.plugin_options.specs.NumberSet.{AllBelow};
-ghost use Rattle.plugin_options.specs.Forms.{ranges};
-ghost use Rattle.plugin_options.specs.Options.{is_formed, read_value};
+ghost use Rattle.plugin_options.specs.Options.{read_value};
 ghost use Rattle.plugin_options.specs.OptionTable.{OptionTable};
 ghost use Rattle.plugin_options.specs.Ranges.{ranges_of};
-ghost use Rattle.plugin_options.specs.Refusal.{IsRefusedBy, Reads, ReadsParsed};
-ghost use Rattle.plugin_options.specs.declared.words_rule.WordsRule.TheVariants.{Value};
+ghost use Rattle.plugin_options.specs.Refusal.{Reads, ReadsParsed};
+ghost use Rattle.plugin_options.specs.declared.limits.TheConstants.{LAST_LABEL, MOST_PACKETS as MOST_EVERY};
+ghost use Rattle.ts_packet.specs.declared.labels.TheConstants.{LABEL_COUNT};
 ghost use Rattle.plugin_set.specs.declared.plugin_conf.PluginConf.{PluginConf as GivenConf};
-ghost use Rattle.plugin_options.specs.OptionWords.{row_of_word};
-ghost use Rattle.plugin_set.specs.Items.{IsValidItem, only_label_row, options_of_item, with_only_label};
+ghost use Rattle.plugin_set.specs.Items.{IsSharedRefusal, IsValidItem, counts_of, every_of, options_of_item, shared_broken, with_shared};
 ghost use Rattle.plugin_set.specs.Plugins.{IsValid, kinds, name_of_kind, plugin_kind_named};
 
 use crate::plugin_conf::{KINDS, PluginConf, PluginKind};
 use crate::plugin_item::PluginItem;
-use plugin_options::{
-    Beside, LAST_LABEL, Need, NumberSet, OptionRow, OptionText, OptionWord, ParsedOptions, Refusal,
-    Takes, WordsRule, command_with, with_value,
-};
+use crate::shared_options::{SharedOptions, read_shared, shared_values, with_shared_options};
+use plugin_options::{ParsedOptions, Refusal, WordsRule, command_with};
 use std::alloc::Global;
-use ts_packet::LABEL_COUNT;
-
-// The option that every plugin has besides its own.
-static ONLY_LABEL: OptionRow = OptionRow {
-    word: OptionWord::Value("only-label", Takes::Ranges(LAST_LABEL)),
-    text: OptionText {
-        value: "LIST",
-        meaning: "0 to 31: see only packets that have a label of the list",
-        need: Need::Free,
-        beside: Beside::Any,
-    },
-};
-
-/// The option that every plugin has besides its own.
-pub fn only_label() -> OptionRow<'static>
-    ensures { row_of_word result.word ≡ only_label_row }
-{
-    ONLY_LABEL
-}
 
 // The first of these kinds that has this name.
 fn kind_named(kinds: &[PluginKind], name: &str) -> Option<PluginKind>
@@ -73,83 +51,88 @@ impl PluginKind {
         ensures reads { Reads (options_of_item self) (map string_bytes words.now) result }
         ensures valid { IfOk result IsValidItem }
     {
-        let command = with_value(alloc, command_with(alloc, self.options())?, "only-label")?;
+        let own = command_with(alloc, self.options())?;
+        let has_summary = self.has_summary();
+        let command = with_shared_options(alloc, own, has_summary)?;
         let found = ParsedOptions::of(command, words)?;
-        with_only_labels(alloc, self.settings(alloc, &found), &found)
+        with_shared(alloc, has_summary, self.settings(alloc, &found), &found)
     }
 }
 
-// The labels of `--only-label`, where it is given.
-fn only_labels(alloc: Global, found: &ParsedOptions) -> Result<Option<NumberSet>, Refusal>
-    ensures reads { MatchResult result
-        (λ only. (is_formed (ranges LAST_LABEL) (codes "only-label") found.now ≡ true)
-        × (only ≡ read_value (ranges_of LAST_LABEL) (codes "only-label") found.now))
-        (IsRefusedBy Value (is_formed (ranges LAST_LABEL) (codes "only-label") found.now ≡ false)) }
-    ensures range { IfOk result (λ only. IfSome only (AllBelow LABEL_COUNT)) }
-{
-    if !found.has_value("only-label") {
-        return Ok(None);
-    }
-    let only = found.ranges(alloc, "only-label", LAST_LABEL)?;
-    Ok(Some(only))
-}
-
-// The settings of the own options of a plugin, with the labels of `--only-label`.
-fn with_only_labels(
+// The settings of the own options of a plugin, with what is found of those that it shares.
+fn with_shared(
     alloc: Global,
+    has_summary: bool,
     conf: Result<PluginConf, Refusal>,
     found: &ParsedOptions,
 ) -> Result<PluginItem, Refusal>
     requires { IfOk conf IsValid }
     ensures reads { (table : OptionTable GivenConf) → ReadsParsed table found.now conf
-        → ReadsParsed (with_only_label table) found.now result }
+        → ReadsParsed (with_shared has_summary table) found.now result }
     ensures valid { IfOk result IsValidItem }
 {
     match conf {
-        Ok(conf) => labelled(alloc, conf, found),
-        Err(refusal) => refused(alloc, refusal, found),
+        Ok(conf) => shared_with(alloc, has_summary, conf, found),
+        Err(refusal) => refused(alloc, has_summary, refusal, found),
     }
 }
 
-// The settings with those labels.
-fn labelled(alloc: Global, conf: PluginConf, found: &ParsedOptions) -> Result<PluginItem, Refusal>
+// The settings with what is found.
+fn shared_with(
+    alloc: Global,
+    has_summary: bool,
+    conf: PluginConf,
+    found: &ParsedOptions,
+) -> Result<PluginItem, Refusal>
     requires { IsValid conf }
     ensures reads { (table : OptionTable GivenConf) → ReadsParsed table found.now (Ok conf)
-        → ReadsParsed (with_only_label table) found.now result }
+        → ReadsParsed (with_shared has_summary table) found.now result }
     ensures valid { IfOk result IsValidItem }
 {
-    let (conf, only) = with_labels(alloc, conf, found)?;
-    Ok(PluginItem { conf, only })
+    let (conf, shared) = beside_shared(alloc, has_summary, conf, found)?;
+    Ok(PluginItem {
+        conf,
+        every: shared.every,
+        counts: shared.counts,
+        only: shared.only,
+    })
 }
 
-// Any settings with those labels. They are a type parameter, since to say what becomes of a large value where it is
+// Any settings with what is found. They are a type parameter, since to say what becomes of a large value where it is
 // dropped takes long to prove.
-fn with_labels<C: Drop>(
+fn beside_shared<C: Drop>(
     alloc: Global,
+    has_summary: bool,
     conf: C,
     found: &ParsedOptions,
-) -> Result<(C, Option<NumberSet>), Refusal>
+) -> Result<(C, SharedOptions), Refusal>
     ensures same { IfOk result (λ pair. pair.0 ≡ conf) }
-    ensures reads { MatchResult result
-        (λ pair. (is_formed (ranges LAST_LABEL) (codes "only-label") found.now ≡ true)
-        × (pair.1 ≡ read_value (ranges_of LAST_LABEL) (codes "only-label") found.now))
-        (IsRefusedBy Value (is_formed (ranges LAST_LABEL) (codes "only-label") found.now ≡ false)) }
-    ensures range { IfOk result (λ pair. IfSome pair.1 (AllBelow LABEL_COUNT)) }
+    ensures reads { MatchResult result (λ _. shared_broken has_summary found.now ≡ None) (IsSharedRefusal has_summary found.now) }
+    ensures every { IfOk result (λ pair. pair.1.every ≡ every_of has_summary found.now) }
+    ensures counts { IfOk result (λ pair. pair.1.counts ≡ counts_of found.now) }
+    ensures only { IfOk result (λ pair. pair.1.only ≡ read_value (ranges_of LAST_LABEL) (codes "only-label") found.now) }
+    ensures every_range { IfOk result (λ pair. IfSome pair.1.every (λ n. (1 ≤ n) × (n ≤ MOST_EVERY))) }
+    ensures only_range { IfOk result (λ pair. IfSome pair.1.only (AllBelow LABEL_COUNT)) }
 {
-    let only = only_labels(alloc, found)?;
-    Ok((conf, only))
+    let shared = read_shared(alloc, has_summary, found)?;
+    Ok((conf, shared))
 }
 
-// Why the words are refused, where the own options of the plugin are. A fault of the labels is reported before options
+// Why the words are refused, where the own options of the plugin are. A value of one that is shared is reported before options
 // in conflict, and after what is missing.
-fn refused(alloc: Global, refusal: Refusal, found: &ParsedOptions) -> Result<PluginItem, Refusal>
+fn refused(
+    alloc: Global,
+    has_summary: bool,
+    refusal: Refusal,
+    found: &ParsedOptions,
+) -> Result<PluginItem, Refusal>
     ensures reads { (table : OptionTable GivenConf) → ReadsParsed table found.now (Err refusal)
-        → ReadsParsed (with_only_label table) found.now result }
+        → ReadsParsed (with_shared has_summary table) found.now result }
     ensures valid { IfOk result IsValidItem }
 {
     match refusal {
         Refusal::Broken(WordsRule::Conflict) => {
-            let _ = only_labels(alloc, found)?;
+            let _ = shared_values(alloc, has_summary, found)?;
             Err(Refusal::Broken(WordsRule::Conflict))
         }
         refusal => Err(refusal),

@@ -4,8 +4,8 @@ ghost use Rattle.std.specs.Prelude.{◌≡◌, [], IfOk};
 
 use crate::cells::{are_counted, each_shows, given, live, one_component, packet, packet_of};
 use plug_edit::{
-    EditCatConf, EditNitConf, EditPatConf, EditPmtConf, EditSdtConf, PmtChanges, new_edit_cat,
-    new_edit_nit, new_edit_pat, new_edit_pmt, new_edit_sdt,
+    EditCatConf, EditNitConf, EditPatConf, EditPmtConf, EditSdtConf, PmtChanges, PmtPlace,
+    new_edit_cat, new_edit_nit, new_edit_pat, new_edit_pmt, new_edit_sdt,
 };
 use plugin_options::{NumberSet, NumberedParts, PairList};
 use plugin_trait::Plugin;
@@ -97,7 +97,7 @@ fn with_a_pid_moved(alloc: Global) -> Result<Vec<Cell>, Fail> {
     let packet = pmt_packet(alloc)?;
     let moved = vec![in alloc; (257, 300)]?;
     let conf = EditPmtConf {
-        pmt_pid: 4096,
+        place: PmtPlace::OnPid(4096),
         add_pid: PairList::of(Vec::new(alloc)),
         remove_pid: no_numbers(alloc),
         move_pid: PairList::of(moved),

@@ -195,7 +195,7 @@ fn is_plain(rt: &impl Abort, plan: &Plan) {
 
 /// Whether plain packets are read from the standard input.
 fn is_standard_input(input: &InputConf) -> bool {
-    matches!(input, InputConf::File { name, form: Form::Ts } if name.as_str().is_empty())
+    matches!(input, InputConf::File { name, form: Form::Ts, resync: false } if name.as_str().is_empty())
 }
 
 /// Whether plain packets are written to the standard output.

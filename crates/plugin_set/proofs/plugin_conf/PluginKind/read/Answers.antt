@@ -1,19 +1,22 @@
-use Rattle.std.proofs.Common.{◌≡◌, ◌∙◌, codes, ap, sym}
+use Rattle.std.proofs.Common.{◌≡◌, ◌∙◌, Bool, ap, sym, subst}
+use Rattle.std.specs.Prelude.{fold}
 use Rattle.clap.specs.Faults.{is_simple_and_free}
 use Rattle.clap.specs.Simple.{App, app_of, with_rule}
-use Rattle.plugin_options.specs.Options.{command_of, value_rule}
-use Rattle.plugin_set.specs.Items.{options_of_item}
-use Rattle.plugin_set.specs.Plugins.{options_of_plugin}
+use Rattle.plugin_options.specs.Options.{command_of, rule_of_kind}
+use Rattle.plugin_options.specs.Refusal.{ReadsParsed}
+use Rattle.plugin_set.specs.Items.{options_of_item, shared_rows, with_shared}
+use Rattle.plugin_set.specs.Plugins.{has_summary, options_of_plugin}
 use Rattle.plugin_set.proofs.ItemLemmas.{command-more, simple, words_read, words_refused}
 use Rattle.plugin_set.proofs.plugin_conf.PluginKind.read.Goals as goal
 use Rattle.plugin_set.proofs.plugin_conf.PluginKind.read.Goals.{In_ok-command}
 
--- the command has the plugin's options and `--only-label`
+-- the command has the plugin's options and those that it shares
 command_is : (c : In_ok-command) → app_of c.in_ok-command.command ≡ command_of (options_of_item c.args.self).rows
 command_is c =
     c.in_ok-command.ensures
-    ∙ (ap (λ (a : App). with_rule a (value_rule (codes "only-label"))) (c.in_ok-command_with.ensures ∙ ap command_of c.options.ensures)
-    ∙ sym (command-more (options_of_plugin c.args.self).rows))
+    ∙ (ap (λ (hs : Bool). fold (λ a r. with_rule a (rule_of_kind r.name r.kind)) (app_of c.in_ok-own.own) (shared_rows hs)) c.has_summary-has_summary.ensures
+    ∙ (ap (λ (a : App). fold (λ a r. with_rule a (rule_of_kind r.name r.kind)) a (shared_rows (has_summary c.args.self))) (c.in_ok-own.ensures ∙ ap command_of c.options.ensures)
+    ∙ sym (command-more (options_of_plugin c.args.self).rows (has_summary c.args.self))))
 
 pub of-requires : goal.of-requires
 of-requires c = ap is_simple_and_free (command_is (goal.at.of-requires c).In_ok-command) ∙ simple c.args.self
@@ -27,4 +30,5 @@ pub returns-clause-reads : goal.returns-clause-reads
 returns-clause-reads c =
     words_read (options_of_item c.args.self) _ _ (command_is (goal.at.returns-clause-reads c).In_ok-command)
     c.in_ok-found.found c.in_ok-found.ensures.0 c.in_ok-found.ensures.1
-    _ (c.with_only_labels.ensures.reads (options_of_plugin c.args.self) c.settings.ensures.reads)
+    _ (subst (λ (hs : Bool). ReadsParsed (with_shared hs (options_of_plugin c.args.self)) c.in_ok-found.found c.with_shared.result) c.has_summary-has_summary.ensures
+    (c.with_shared.ensures.reads (options_of_plugin c.args.self) c.settings.ensures.reads))

@@ -2,10 +2,10 @@ use Rattle.std.proofs.Common.{Result, subst}
 use Rattle.plugin_options.specs.Refusal.{ReadsParsed}
 use Rattle.plugin_options.specs.declared.refusal.Refusal.{Refusal}
 use Rattle.plugin_set.specs.declared.plugin_conf.PluginConf.{PluginConf}
-use Rattle.plugin_set.proofs.reading.with_only_labels.Goals as goal
+use Rattle.plugin_set.proofs.reading.with_shared.Goals as goal
 
 pub returns-in-Ok-clause-reads : goal.returns-in-Ok-clause-reads
-returns-in-Ok-clause-reads c = λ table reads. c.labelled.ensures.reads table
+returns-in-Ok-clause-reads c = λ table reads. c.shared_with.ensures.reads table
     (subst (λ (conf : Result PluginConf Refusal). ReadsParsed table c.args.found.now conf) c.in-Ok.is reads)
 
 pub returns-in-Err-clause-reads : goal.returns-in-Err-clause-reads
