@@ -1,9 +1,9 @@
 -- Gaps that are kept: with those that come they are all, and those that come are before packets that were not given.
 use Rattle.std.proofs.Common.{◌≡◌, ℕ, zero, suc, ◌+◌, ◌*◌, ◌<◌, ◌≤◌, ◌^◌, Bool, true, false, List, [], ◌∷◌, ◌++◌, Option, None, Some, length, take, drop, replicate, min, refl, ap, sym, ◌∙◌, subst, arith, append_assoc, length-append, length-drop, length-take, unwrap_or}
 use Rattle.std.specs.List.{concat, AllByRecursion}
-use Rattle.std.proofs.lemmas.List.{length-replicate}
+use Rattle.std.proofs.lemmas.List.{length-replicate, drop_all}
 use Rattle.std.specs.Option.{option_map}
-use Rattle.ts_outside.specs.Told.{before}
+use Rattle.ts_outside.specs.Told.{before, told_length}
 use Rattle.ts_outside.specs.Source.{SourceView, Origin}
 use Rattle.ts_outside.specs.Count.{count_end}
 use Rattle.packet_forms.specs.declared.forms.Form.{Form}
@@ -16,7 +16,7 @@ use Rattle.search_source.specs.declared.gap.Gap.{Gap}
 use Rattle.search_source.specs.Gaps.{counted, gap_before, gaps_from}
 use Rattle.search_source.specs.Coming.{Coming, ungiven, found_in, coming_from}
 use Rattle.search_source.specs.SearchView.{SearchView, plain}
-use Rattle.search_source.specs.Kept.{beside, all_beside, with_gaps, KeptThrough, KeptOf}
+use Rattle.search_source.specs.Kept.{beside, all_beside, with_gaps, KeptThrough, KeptTo, GapsTo, KeptOf}
 use Rattle.search_source.proofs.Counting.{counted-small}
 use Rattle.search_source.proofs.Through.{same-units}
 
@@ -164,3 +164,57 @@ kept-of form file given gaps old new inner left_is origin_is moved same small ke
     ∙ ap (λ (f : Form). before given (option_map (λ (c : Coming). c.bytes) (option_map (λ rest. ungiven [] through.noted (coming_from f through.due through.tail through.near through.left through.number (through.hand ++ rest))) inner.left))) form_is)
     (subst (λ (f : Form). all_beside f (Some file) ≡ with_gaps gaps (beside (option_map (λ rest. coming_from f through.due through.tail through.near through.left through.number (through.hand ++ rest)) inner.left))) form_is
     (ap (all_beside through.form) (sym told) ∙ kept.kept refl))
+
+-- how far the search came in a file that is told
+gaps-from-here : (form : Form) (number : ℕ) (near : Bool) (left : ℕ) (here file : List ℕ) (gaps : List Gap) → length file < 2 ^ 63
+    → (found_in form file).packets ≡ counted (number + length (search_from form 0 near left here).found)
+    → (found_in form file).gaps ≡ gaps ++ gaps_from number (search_from form 0 near left here).found
+    → AllByRecursion (λ (gap : Gap). number ≤ gap.before) (gaps_from number (search_from form 0 near left here).found)
+unfolding search
+gaps-from-here form number near left here file gaps small packets_are gaps_are =
+    let all : List Found = (search_from form 0 true 0 file).found in
+    let later : List Found = (search_from form 0 near left here).found in
+    let fit : 188 * length all ≤ length file = found-fit form file in
+    let few : length all < count_end = omega arith in
+    let same : number + length later ≡ length all = counted-same (length all) (number + length later) count_end packets_are few in
+    let known : number ≤ count_end = omega arith in
+    gaps-from-on number number later (let e : counted number ≡ number = counted-small number known in omega arith)
+
+-- no byte is in hand or to come
+nothing-here : (due tail : ℕ) (hand rest : List ℕ) → hand ≡ [] → length rest ≡ 0 → drop (due + tail) (hand ++ rest) ≡ []
+nothing-here due tail hand [] none short = ap (λ (h : List ℕ). drop (due + tail) (h ++ [])) none ∙ drop_all (due + tail) [] (omega arith)
+nothing-here due tail hand (byte ∷ rest) none short = absurd (omega arith)
+
+gaps-told : (form : Form) (due tail : ℕ) (near : Bool) (left number : ℕ) (hand file : List ℕ) (gaps : List Gap) (behind : ℕ) (over : Bool) (inner : Option (List ℕ)) → length file < 2 ^ 63
+    → counted left ≡ behind → (over ≡ true → (hand ≡ []) × (told_length inner ≡ 0))
+    → all_beside form (Some file) ≡ with_gaps gaps (beside (option_map (λ rest. coming_from form due tail near left number (hand ++ rest)) inner))
+    → GapsTo form file gaps number behind over
+unfolding coming_from search_from gaps_from
+gaps-told form due tail near left number hand file gaps behind over None small behind_is over_is kept = absurd cc
+gaps-told form due tail near left number hand file gaps behind over (Some rest) small behind_is over_is kept =
+    let none : Coming = record { bytes = []; gaps = []; packets = 0; behind = 0 } in
+    let here : List ℕ = drop (due + tail) (hand ++ rest) in
+    let packets_are = ap (λ (o : Option Coming). (unwrap_or o none).packets) kept in
+    let gaps_are = ap (λ (o : Option Coming). (unwrap_or o none).gaps) kept in
+    let behind_of : (found_in form file).behind ≡ counted (search_from form 0 near left here).behind = ap (λ (o : Option Coming). (unwrap_or o none).behind) kept in
+    record {
+      later = gaps_from number (search_from form 0 near left here).found;
+      all_are = gaps_are;
+      not_begun = gaps-from-here form number near left here file gaps small packets_are gaps_are;
+      over_is = λ is.
+          let nothing : here ≡ [] = nothing-here due tail hand rest (over_is is).0 (over_is is).1 in (
+            ap (λ (h : List ℕ). gaps_from number (search_from form 0 near left h).found) nothing,
+            behind_of ∙ ap (λ (h : List ℕ). counted (search_from form 0 near left h).behind) nothing ∙ behind_is,
+          );
+    }
+
+pub gaps-to : (form : Form) (file : List ℕ) (gaps : List Gap) (number behind : ℕ) (over : Bool) (new : SearchView) (inner : SourceView)
+    → new.origin ≡ record { unit = 6 * unit form; bytes = Some file } → length file < 2 ^ 63 → KeptTo new inner false gaps number behind over → GapsTo form file gaps number behind over
+gaps-to form file gaps number behind over new inner origin_is small to =
+    let through = to.kept.through in
+    let told : new.origin.bytes ≡ Some file = ap (λ (o : Origin). o.bytes) origin_is in
+    let form_is : through.form ≡ form = sym (same-units form through.form (sym (ap (λ (o : Origin). o.unit) origin_is) ∙ through.unit_is)) in
+    subst (λ (n : ℕ). GapsTo form file gaps n behind over) to.number_is
+    (gaps-told form through.due through.tail through.near through.left through.number through.hand file gaps behind over inner.left small to.behind_is to.over_is
+    (subst (λ (f : Form). all_beside f (Some file) ≡ with_gaps gaps (beside (option_map (λ rest. coming_from f through.due through.tail through.near through.left through.number (through.hand ++ rest)) inner.left))) form_is
+    (ap (all_beside through.form) (sym told) ∙ to.kept.kept refl)))

@@ -7,7 +7,7 @@ use Rattle.search_source.specs.declared.file_source.FileSource.{FileSource}
 use Rattle.search_source.specs.declared.file_source.FileSource.TheVariants.{Placed, Found}
 use Rattle.search_source.specs.declared.file_source.KeptGaps.{KeptGaps}
 use Rattle.search_source.specs.SearchView.{SearchView, plain}
-use Rattle.search_source.specs.Kept.{KeptThrough}
+use Rattle.search_source.specs.Kept.{KeptTo}
 
 -- what is seen of the one that it is
 abbrev pub of_either : {P F A : Type 0} → (P → A) → (F → A) → FileSource P F → A
@@ -20,4 +20,4 @@ abbrev pub EndsAs : SourceView → SourceView → Option KeptGaps → Type 0
 EndsAs outer inner None = ReadsThrough outer inner
 EndsAs outer inner (Some kept) =
     (view : SearchView) × (outer ≡ plain view) × (outer.origin.unit ≡ deciding_bytes kept.form)
-    × KeptThrough view inner kept.lost kept.gaps.items
+    × KeptTo view inner kept.lost kept.gaps.items kept.number kept.behind kept.over

@@ -22,8 +22,12 @@ pub struct KeptGaps {
     pub gaps: Vec<Gap>,
     /// Whether there was no memory for a gap.
     pub lost: bool,
+    /// How many packets were begun; it saturates at `u64::MAX`.
+    pub number: u64,
     /// After a read that was at the end, how many bytes are left out behind the last packet.
     pub behind: u64,
+    /// Whether the file was read to its end, and nothing more is found.
+    pub over: bool,
 }
 
 /// The file's own source, and the gaps that were kept, where packets were found again.
@@ -51,7 +55,9 @@ impl<S: Source> FileSource<FormSource<S>, NotedSource<S>> {
                     form,
                     gaps,
                     lost,
+                    number,
                     behind,
+                    over,
                 } = source.into_parts();
                 FileParts {
                     source,
@@ -59,7 +65,9 @@ impl<S: Source> FileSource<FormSource<S>, NotedSource<S>> {
                         form,
                         gaps,
                         lost,
+                        number,
                         behind,
+                        over,
                     }),
                 }
             }

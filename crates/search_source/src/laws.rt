@@ -1,5 +1,5 @@
 //! A law of sources of packets that are found again.
-ghost use Rattle.std.specs.Prelude.{◌≡◌, ◌<◌, ◌^◌, ℕ, List, Some, false, length};
+ghost use Rattle.std.specs.Prelude.{◌≡◌, ◌<◌, ◌^◌, ℕ, Bool, List, Some, false, length};
 ghost use Rattle.std.specs.Option.{option_map};
 ghost use Rattle.packet_forms.specs.declared.forms.Form.{Form};
 ghost use Rattle.packet_search.specs.Rule.{deciding_bytes};
@@ -8,7 +8,7 @@ ghost use Rattle.ts_outside.specs.Source.{SourceView};
 ghost use Rattle.search_source.specs.declared.gap.Gap.{Gap};
 ghost use Rattle.search_source.specs.Coming.{found_in, ungiven};
 ghost use Rattle.search_source.specs.SearchView.{SearchView, plain, FoundThrough, FoundOf};
-ghost use Rattle.search_source.specs.Kept.{KeptThrough, KeptOf};
+ghost use Rattle.search_source.specs.Kept.{KeptThrough, KeptTo, GapsTo, KeptOf};
 
 /// After any reads of a file whose bytes are known, what was given and which gaps were taken is the first part of all that
 /// is found in the file, and what is left of the file itself is told. A law; it runs nothing.
@@ -17,6 +17,15 @@ pub fn what_was_read()
         → old.coming ≡ Some (found_in form file) → old.origin ≡ record { unit = deciding_bytes form; bytes = Some file }
         → old.coming ≡ option_map (ungiven given gaps) new.coming → old.origin ≡ new.origin → FoundThrough new inner
         → FoundOf form file given gaps inner.left }
+{}
+
+/// After any reads of a file whose bytes are known, and where no gap was lost, each gap of the file that was not kept is
+/// before a packet that was not begun. Where the search is over, all were kept, and what is left out behind the last packet
+/// is known. A law; it runs nothing.
+pub fn gaps_so_far()
+    ensures { (form : Form) (file : List ℕ) (gaps : List Gap) (number behind : ℕ) (over : Bool) (new : SearchView) (inner : SourceView)
+        → new.origin ≡ record { unit = deciding_bytes form; bytes = Some file } → length file < 2 ^ 63
+        → KeptTo new inner false gaps number behind over → GapsTo form file gaps number behind over }
 {}
 
 /// After any reads of a file whose bytes are known, and where no gap was lost, each gap of the file that was not kept is

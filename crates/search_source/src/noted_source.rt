@@ -33,8 +33,12 @@ pub struct NotedParts<S> {
     pub gaps: Vec<Gap>,
     /// Whether there was no memory for a gap.
     pub lost: bool,
+    /// How many packets were begun; it saturates at `u64::MAX`.
+    pub number: u64,
     /// After a read that was at the end, how many bytes are left out behind the last packet.
     pub behind: u64,
+    /// Whether the source was read to its end, and nothing more is found.
+    pub over: bool,
 }
 
 /// Whether a gap was lost before, or the last one was not kept.
@@ -47,7 +51,7 @@ fn is_lost(before: bool, kept: bool) -> bool
 impl<S: Source> NotedSource<S> {
     ghost use Rattle.std.specs.Option.{option_map};
     ghost use Rattle.search_source.specs.Coming.{found_in};
-    ghost use Rattle.search_source.specs.Kept.{KeptThrough};
+    ghost use Rattle.search_source.specs.Kept.{KeptTo};
 
     /// The packets that are found in a source, with room for its bytes, six units of them at least.
     pub fn new(alloc: Global, source: S, form: Form, room: Vec<u8>) -> NotedSource<S>
@@ -74,18 +78,19 @@ impl<S: Source> NotedSource<S> {
     /// Returns the other source as it is, and the gaps that were kept.
     pub fn into_parts(self) -> NotedParts<S>
         ensures inner { result.source ≡ self.source.source }
-        ensures kept { KeptThrough
+        ensures kept { KeptTo
             (search_view self.source.finder (S.seen self.source.first.value) (S.seen self.source.source)) (S.seen result.source)
-            result.lost result.gaps.items }
+            result.lost result.gaps.items result.number result.behind result.over }
         ensures form { result.form ≡ self.source.finder.form }
-        ensures behind { result.behind ≡ self.source.finder.left }
     {
         let NotedSource {
             source,
             mut gaps,
             lost,
         } = self;
+        let number = source.number();
         let behind = source.behind();
+        let over = source.is_over();
         let form = source.form();
         let noted = source.gap();
         let kept = keep(&mut gaps, noted);
@@ -95,7 +100,9 @@ impl<S: Source> NotedSource<S> {
             form,
             gaps,
             lost: is_lost(lost, kept),
+            number,
             behind,
+            over,
         }
     }
 }

@@ -38,6 +38,7 @@ impl<S: Source> SearchSource<S> {
     ghost use Rattle.std.specs.Prelude.{◌+◌, ℕ, Bool, List, [], ◌++◌, None, false, length, take, IfOk, MatchResult, option_to_list};
     ghost use Rattle.std.specs.Option.{option_map};
     ghost use Rattle.search_source.specs.Coming.{deciding, found_in, hand_of};
+    ghost use Rattle.search_source.specs.Gaps.{counted};
     ghost use Rattle.search_source.specs.SearchView.{unsearched, search_failed, FoundThrough, IsWithin};
 
     /// The packets that are found in a source, with room for its bytes, six units of them at least.
@@ -88,10 +89,28 @@ impl<S: Source> SearchSource<S> {
         self.finder.noted
     }
 
+    /// How many packets were begun; it saturates at `u64::MAX`.
+    pub fn number(&self) -> u64
+        ensures { result ≡ self.now.finder.number }
+    {
+        self.finder.number
+    }
+
+    /// Whether the other source is at its end, and no byte of it is in hand: nothing more is found.
+    pub fn is_over(&self) -> bool
+        ensures { result ≡ true → (hand_of self.now.finder ≡ []) × (told_length (S.seen self.now.source).left ≡ 0) }
+    {
+        if !self.ended {
+            return false;
+        }
+        self.finder.have == 0
+    }
+
     /// After a read that was at the end, how many bytes are left out behind the last packet; before that, how many were
     /// left out since the last packet so far. It saturates at `u64::MAX`.
     pub fn behind(&self) -> u64
-        ensures { result ≡ self.now.finder.left }
+        ensures left { result ≡ self.now.finder.left }
+        ensures counted { counted result ≡ result }
     {
         self.finder.left
     }

@@ -39,7 +39,11 @@ fn named_or<'a>(name: &'a str, other: &'a str) -> &'a str {
 // The form of the input's packets.
 fn form_of(plan: &Plan) -> Form {
     match &plan.input {
-        InputConf::File { name: _, form } => *form,
+        InputConf::File {
+            name: _,
+            form,
+            resync: _,
+        } => *form,
         InputConf::Null(_) => Form::Ts,
         InputConf::TestGen {
             seed: _,
@@ -66,17 +70,16 @@ fn sync_text(alloc: Global, plan: &Plan, packet: u64, head: &[u8]) -> Result<Str
         }
         _ if packet > 0 => {
             text.push_str(": there are other bytes between its packets, or it is damaged")?;
-            text.push_str("; docs/recipes.md has a way to mend it\n")?;
+            text.push_str("; --resync finds its packets again\n")?;
         }
         Some(Seen::Rtp) => {
             text.push_str("; it begins as RTP does, with a header before every few packets")?;
-            text.push_str(": docs/recipes.md has a way to take out what is between packets\n")?;
+            text.push_str(": --resync finds the packets between them\n")?;
         }
         Some(Seen::Behind(before)) => {
-            let next = before.saturating_add(1);
             write!(
                 text,
-                "; packets begin at byte {before}: tail -c +{next} leaves out what is before them\n"
+                "; packets begin at byte {before}: --resync leaves out what is before them\n"
             )?;
         }
         _ if head.get(4) == Some(&0x47) => {
@@ -165,7 +168,11 @@ fn table_file_numbered(plan: &Plan, number: u64) -> &str {
 // The name of the input's file.
 fn input_name(plan: &Plan) -> &str {
     match &plan.input {
-        InputConf::File { name, form: _ } => named_or(name.as_str(), STANDARD_INPUT),
+        InputConf::File {
+            name,
+            form: _,
+            resync: _,
+        } => named_or(name.as_str(), STANDARD_INPUT),
         InputConf::Null(_) => "the input",
         InputConf::TestGen {
             seed: _,

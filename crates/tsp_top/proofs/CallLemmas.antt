@@ -30,14 +30,14 @@ use Rattle.tsp_top.specs.TspCall.{IsOverBefore}
 use Rattle.tsp_top.specs.declared.status.Status.{Status}
 use Rattle.tsp_top.specs.declared.status.Status.TheVariants.{NoMemory, ReadFault, WriteFault}
 use Rattle.tsp_top.proofs.DeskLemmas.{SameOutside, same-asked_input, asked-asked_input, leaves-input_closed, outputs-input_closed, write_faults-input_closed, leaves-says}
-use Rattle.tsp_top.proofs.SourceLemmas.{reads-nothing, some-files}
+use Rattle.tsp_top.proofs.SourceLemmas.{reads-nothing, some-files, some-input}
 use Rattle.tsp_top.proofs.StreamLemmas.{reports-text}
 
 -- a failed opening changes what was asked and one count of faults
 in-vain-input : (d : DeskView) (conf : InputConf) → NamesInput conf
     → SameOutside d (asked_input_in_vain d conf) × HasCause d.read_faults (asked_input_in_vain d conf).read_faults
     × ((asked_input_in_vain d conf).asked ≡ grown d.asked (asked_for Input (input_name conf) false))
-in-vain-input d (input.File name form) named =
+in-vain-input d (input.File name form resync) named =
     (record { files = refl; outputs = refl; reported = refl; closed_in = refl; report_faults = refl }, HasCause-raised d.read_faults, refl)
 in-vain-input d (input.Null count) named = absurd named
 in-vain-input d (input.TestGen seed count) named = absurd named
@@ -51,7 +51,7 @@ in-vain-output d output.Drop named = absurd named
 
 -- what is opened has a name
 input-named : (conf : InputConf) → NamesInput conf → IsSome (input_name conf)
-input-named (input.File name form) named = refl
+input-named (input.File name form resync) named = refl
 input-named (input.Null count) named = absurd named
 input-named (input.TestGen seed count) named = absurd named
 
@@ -69,11 +69,14 @@ no-input-theorem plan tables old made new failed named asked says =
     let v = in-vain-input old plan.input named in
     let l = leaves-says vain new text failed said in
     let files = some-files old in
+    let given = some-input plan.input old.files files.0 in
     record {
       end = no_input;
       status_tells_cause = (refl, subst (λ (n : ℕ). HasCause old.read_faults n) (sym l.read_faults) v.1);
       files = files.0;
       files_are = files.1;
+      given = given.0;
+      given_is = given.1;
       can_end = input-named plan.input named;
       pure_or_fault = tt;
       reads = l.closed_in ∙ v.0.closed_in;
@@ -98,6 +101,7 @@ no-output-theorem seen inner plan tables old made new part failed opens named as
     let c = leaves-input_closed inner vain part in
     let l = leaves-says closed new text failed said in
     let files = some-files old in
+    let given = some-input plan.input old.files files.0 in
     record {
       end = no_output;
       status_tells_cause = (
@@ -107,6 +111,8 @@ no-output-theorem seen inner plan tables old made new part failed opens named as
       );
       files = files.0;
       files_are = files.1;
+      given = given.0;
+      given_is = given.1;
       can_end = output-named plan.output named;
       pure_or_fault = tt;
       reads = reads-nothing seen inner old vain new files.0 plan.input part files.1 opens (v.0.closed_in ∙ a.0.closed_in) l.closed_in;
@@ -135,11 +141,14 @@ no-memory-theorem seen inner plan tables old new part opens is =
     let reported : new.reported ≡ old.reported = ap (λ (d : DeskView). d.reported) is ∙ c.reported ∙ a.0.reported in
     let report_faults : new.report_faults ≡ old.report_faults = ap (λ (d : DeskView). d.report_faults) is ∙ c.report_faults ∙ a.0.report_faults in
     let files = some-files old in
+    let given = some-input plan.input old.files files.0 in
     record {
       end = out_of_memory;
       status_tells_cause = refl;
       files = files.0;
       files_are = files.1;
+      given = given.0;
+      given_is = given.1;
       can_end = tt;
       pure_or_fault = tt;
       reads = reads-nothing seen inner old first new files.0 plan.input part files.1 opens a.0.closed_in (ap (λ (d : DeskView). d.closed_in) is);

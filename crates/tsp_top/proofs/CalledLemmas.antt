@@ -8,7 +8,7 @@ use Rattle.chain_core.specs.declared.closed.Closed.{Closed}
 use Rattle.chain_core.specs.declared.core_plan.CorePlan.{CorePlan}
 use Rattle.chain_model.specs.PluginRule.{PluginRule}
 use Rattle.chain_model.specs.Reports.{rules_of}
-use Rattle.plugin_set.specs.Plugins.{preallocated_of}
+use Rattle.plugin_set.specs.Items.{preallocated_of_item}
 use Rattle.stage_run.specs.declared.input_part.InputPart.{InputPart}
 use Rattle.stage_run.specs.declared.output_part.OutputPart.{OutputPart}
 use Rattle.stage_run.specs.declared.stuffing.Stuffing.{Stuffing}
@@ -34,7 +34,7 @@ pub ready-plugins : {P : Type 0} (rule : P → PluginRule) (stands : P → List 
     → IsReady rule stands preallocated plan tables stuffing numbers plugins → numbers.plugins ≡ length plugins
 ready-plugins rule stands preallocated plan tables stuffing numbers plugins ready =
     ready.numbers_are.plugins
-    ∙ sym (length-map plan.plugins (λ item. preallocated_of item.conf numbers.buffer))
+    ∙ sym (length-map plan.plugins (λ item. preallocated_of_item item numbers.buffer))
     ∙ ap (λ (l : List (Option ℕ)). length l) (sym ready.rooms)
     ∙ length-map plugins (by_plugin preallocated)
 

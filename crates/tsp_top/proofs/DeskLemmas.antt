@@ -34,7 +34,7 @@ pub record SameCounts (old new : DeskView) : Type 0 where
   pub write_faults : new.write_faults ≡ old.write_faults
 
 pub same-asked_input : (d : DeskView) (conf : InputConf) → SameOutside d (asked_input d conf) × SameCounts d (asked_input d conf)
-same-asked_input d (input.File name form) =
+same-asked_input d (input.File name form resync) =
     (record { files = refl; outputs = refl; reported = refl; closed_in = refl; report_faults = refl }, record { read_faults = refl; write_faults = refl })
 same-asked_input d (input.Null count) =
     (record { files = refl; outputs = refl; reported = refl; closed_in = refl; report_faults = refl }, record { read_faults = refl; write_faults = refl })
@@ -48,7 +48,7 @@ same-asked_output d output.Drop =
     (record { files = refl; outputs = refl; reported = refl; closed_in = refl; report_faults = refl }, record { read_faults = refl; write_faults = refl })
 
 pub asked-asked_input : (d : DeskView) (conf : InputConf) → (asked_input d conf).asked ≡ grown d.asked (asked_for Input (input_name conf) true)
-asked-asked_input d (input.File name form) = refl
+asked-asked_input d (input.File name form resync) = refl
 asked-asked_input d (input.Null count) = sym (grown-nil d.asked)
 asked-asked_input d (input.TestGen seed count) = sym (grown-nil d.asked)
 

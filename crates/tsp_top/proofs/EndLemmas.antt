@@ -1,5 +1,5 @@
 -- The end of a report, whether its lines were printed before or not.
-use Rattle.std.proofs.Common.{◌≡◌, inl, inr, ℕ, suc, List, [], ◌∷◌, ◌++◌, take, Bool, true, false, if◌then◌else◌, refl, ap, sym, ◌∙◌, subst, append-nil}
+use Rattle.std.proofs.Common.{◌≡◌, inl, inr, ℕ, suc, List, [], ◌∷◌, ◌++◌, take, Bool, true, false, if◌then◌else◌, Option, refl, ap, sym, ◌∙◌, subst, append-nil}
 use Rattle.ts_outside.specs.Source.{SourceView}
 use Rattle.ts_outside.specs.Sink.{SinkView}
 use Rattle.ts_outside.specs.Desk.{DeskView, reports, report_failed}
@@ -16,7 +16,9 @@ use Rattle.stage_run.specs.declared.input_part.InputPart.{InputPart}
 use Rattle.stage_run.specs.declared.input_part.InputPart.TheVariants.{Stream, Nulls, Generated}
 use Rattle.stage_run.specs.declared.output_part.OutputPart.{OutputPart}
 use Rattle.stage_run.specs.declared.output_part.OutputPart.TheVariants as out
-use Rattle.tsp_top.specs.Printed.{live_asked, live_text, reported_as, reports_asked, summaries_printed}
+use Rattle.tsp_top.specs.Printed.{input_printed, live_asked, live_text, reported_as, reports_asked, summaries_printed}
+use Rattle.tsp_top.specs.LeftOut.{LeftOut}
+use Rattle.tsp_top.specs.PlannedChain.{stuffing_of}
 use Rattle.tsp_top.specs.Printing.{HasPrinted}
 use Rattle.tsp_top.specs.Ran.{closed_desk}
 use Rattle.tsp_top.specs.Reported.{ReportsAsked, ReportsRun, SaysFirst, StandsUnreported}
@@ -66,14 +68,14 @@ module _ {S K : Type 0} (inner : S → SourceView) (seen : K → SinkView) where
       }
 
   -- what is reported after both ends were closed goes on behind what was printed before that
-  pub closed-live : (from : InputPart S) (to : OutputPart K) (closing told : Bool) (general : GeneralConf) (text : List ℕ) (lines : List LiveLine) (faulty : Bool) (why : Cause)
+  pub closed-live : (from : InputPart S) (to : OutputPart K) (closing told : Bool) (general : GeneralConf) (text : List ℕ) (lines : List LiveLine) (faulty : Bool) (K : Type 0) (why : Cause)
       (opened ran made new : DeskView) (failed whole : Bool) (status : Status)
       → told ≡ closing → made ≡ closed_desk inner seen ran from to closing → HasPrinted general.bare lines opened ran failed whole
-      → ((first : DeskView) → HasPrinted general.bare lines first made failed whole → ReportsAsked general text lines faulty why told first new status)
-      → ReportsAsked general text lines faulty why closing (closed_desk inner seen opened from to closing) new status
-  closed-live from to closing told general text lines faulty why opened ran made new failed whole status e is printed reported =
+      → ((first : DeskView) → HasPrinted general.bare lines first made failed whole → ReportsAsked general text lines faulty K why told first new status)
+      → ReportsAsked general text lines faulty K why closing (closed_desk inner seen opened from to closing) new status
+  closed-live from to closing told general text lines faulty K why opened ran made new failed whole status e is printed reported =
       let first : DeskView = closed_desk inner seen opened from to closing in
-      let B : Bool → Type 0 = λ b. ReportsAsked general text lines faulty why b first new status in
+      let B : Bool → Type 0 = λ b. ReportsAsked general text lines faulty K why b first new status in
       subst B e (reported first (closed-printed from to closing general.bare lines opened ran made failed whole is printed))
 
   -- a desk that nothing was reported at, after both ends were closed
@@ -89,32 +91,35 @@ summaries-plain rules input m j [] = refl
 summaries-plain rules input m j (plugin ∷ rest) =
     ap (λ (l : List ℕ). plugin_report (suc j) plugin.name (plugin.rule.summary_of (take m (stage_list rules input j).cells)) ++ l) (summaries-plain rules input m (suc j) rest)
 
--- the lines, the summaries, and then the line for the end or nothing
-live-same : (bare : Bool) (chain : Chain) (m : ℕ) (why : Cause)
-    → live_text bare (lines_below chain m) ++ (summaries_printed bare (chain_rules chain) chain.input m 0 chain.plugins ++ (if bare then [] else end_line why m)) ≡ live_asked bare chain m why
-live-same true chain m why =
-    ap (λ (l : List ℕ). live_text true (lines_below chain m) ++ l) (append-nil (summaries_printed true (chain_rules chain) chain.input m 0 chain.plugins))
-live-same false chain m why =
-    ap (λ (l : List ℕ). printed_below chain m ++ (l ++ end_line why m)) (summaries-plain (chain_rules chain) chain.input m 0 chain.plugins)
+-- the lines, what the input reports, the summaries, and then the line for the end or nothing
+live-same : (bare : Bool) (said : List ℕ) (chain : Chain) (m : ℕ) (why : Cause)
+    → live_text bare (lines_below chain m) ++ (said ++ (summaries_printed bare (chain_rules chain) chain.input m 0 chain.plugins ++ (if bare then [] else end_line why m))) ≡ live_asked bare said chain m why
+live-same true said chain m why =
+    ap (λ (l : List ℕ). live_text true (lines_below chain m) ++ (said ++ l)) (append-nil (summaries_printed true (chain_rules chain) chain.input m 0 chain.plugins))
+live-same false said chain m why =
+    ap (λ (l : List ℕ). printed_below chain m ++ (said ++ (l ++ end_line why m))) (summaries-plain (chain_rules chain) chain.input m 0 chain.plugins)
 
-pub live-report : (general : GeneralConf) (chain : Chain) (m : ℕ) (why : Cause) → general.live ≡ true
-    → live_text general.bare (lines_below chain m) ++ (summaries_printed general.bare (chain_rules chain) chain.input m 0 chain.plugins ++ (if general.bare then [] else end_line why m))
-    ≡ reported_as general chain m why
-live-report general chain m why live =
-    live-same general.bare chain m why
-    ∙ sym (ap (λ (b : Bool). if b then live_asked general.bare chain m why else reports_asked general chain.plugins chain.input m why) live)
+pub live-report : (general : GeneralConf) (left_out : Option LeftOut) (chain : Chain) (m : ℕ) (why : Cause) → general.live ≡ true
+    → live_text general.bare (lines_below chain m) ++ (input_printed general.bare (stuffing_of general) left_out m why
+    ++ (summaries_printed general.bare (chain_rules chain) chain.input m 0 chain.plugins ++ (if general.bare then [] else end_line why m)))
+    ≡ reported_as general left_out chain m why
+live-report general left_out chain m why live =
+    let said : List ℕ = input_printed general.bare (stuffing_of general) left_out m why in
+    live-same general.bare said chain m why
+    ∙ sym (ap (λ (b : Bool). if b then live_asked general.bare said chain m why else said ++ reports_asked general chain.plugins chain.input m why) live)
 
 -- ---- what was asked for
 
-pub asked-plain : (general : GeneralConf) (chain : Chain) (m : ℕ) (why : Cause) (lines : List LiveLine) (faulty closing : Bool) (old new : DeskView) (status : Status) → general.live ≡ false
-    → ReportsRun general (reports_asked general chain.plugins chain.input m why) faulty why closing old new status
-    → ReportsAsked general (reported_as general chain m why) lines faulty why closing old new status
-asked-plain general chain m why lines faulty closing old new status plain (inl said) =
+pub asked-plain : (general : GeneralConf) (left_out : Option LeftOut) (chain : Chain) (m : ℕ) (why : Cause) (lines : List LiveLine) (faulty : Bool) (K : Type 0) (closing : Bool) (old new : DeskView) (status : Status) → general.live ≡ false
+    → ReportsRun general (input_printed general.bare (stuffing_of general) left_out m why ++ reports_asked general chain.plugins chain.input m why) faulty K why closing old new status
+    → ReportsAsked general (reported_as general left_out chain m why) lines faulty K why closing old new status
+asked-plain general left_out chain m why lines faulty K closing old new status plain (inl said) =
     let T : List ℕ → Type 0 = λ t. Says old new t said.0 in
-    let same : reported_as general chain m why ≡ reports_asked general chain.plugins chain.input m why =
-    ap (λ (b : Bool). if b then live_asked general.bare chain m why else reports_asked general chain.plugins chain.input m why) plain in
-    inl (said.0, subst T (sym same) said.1, said.2)
-asked-plain general chain m why lines faulty closing old new status plain (inr none) =
+    let own : List ℕ = input_printed general.bare (stuffing_of general) left_out m why in
+    let same : reported_as general left_out chain m why ≡ own ++ reports_asked general chain.plugins chain.input m why =
+    ap (λ (b : Bool). if b then live_asked general.bare own chain m why else own ++ reports_asked general chain.plugins chain.input m why) plain in
+    inl (said.0, subst T (sym same) said.1, said.2, said.3)
+asked-plain general left_out chain m why lines faulty K closing old new status plain (inr none) =
     let B : Bool → Type 0 = λ b. StandsUnreported b general.bare lines old new in
     inr (none.0, subst B (sym plain) none.1)
 

@@ -8,7 +8,7 @@ use Rattle.chain_model.specs.declared.cause.Cause.TheVariants.{Input, Joint, Unt
 use Rattle.std.specs.List.{AllByRecursion}
 use Rattle.chain_core.proofs.Facts.{all_by_recursion}
 use Rattle.chain_model.specs.Cut.{is_fault}
-use Rattle.chain_model.specs.InputList.{InputList, input_of_bytes}
+use Rattle.chain_model.specs.InputList.{input_of_bytes}
 use Rattle.chain_model.specs.PureRun.{Chain, chain_cause, chain_cut, pure_run, written_to}
 use Rattle.chain_model.specs.Stuffed.{Stuffing, stuffed}
 use Rattle.plugin_set.specs.declared.plugin_item.PluginItem.{PluginItem}
@@ -20,7 +20,6 @@ use Rattle.chain_args.specs.declared.plan_type.Plan.{Plan}
 use Rattle.chain_args.specs.declared.general_conf.GeneralConf.{GeneralConf}
 use Rattle.plugin_options.specs.declared.words_rule.WordsRule.{WordsRule}
 use Rattle.chain_args.specs.declared.words_fault.WordsFault.TheVariants.{At}
-use Rattle.packet_forms.specs.Stripped.{stripped}
 use Rattle.ts_outside.specs.Count.{HasCause, IsQuiet}
 use Rattle.ts_outside.specs.Told.{grown}
 use Rattle.ts_outside.specs.Desk.{DeskView, file_of}
@@ -29,14 +28,15 @@ use Rattle.ts_outside.specs.Faultless.{NothingFails}
 use Rattle.tsp_top.specs.CallOutcome.{CallOutcome, no_input, no_output, ran, unreported, out_of_memory, done_status, in_place_of_done, is_plain_end, run_status, status_in_time, status_of, FaultRose, StatusTellsCause}
 use Rattle.tsp_top.specs.CanEnd.{CanEnd, CanEndBy}
 use Rattle.tsp_top.specs.MemoryFirst.{IsPreallocated, ArePreallocated, NoStageWants, TakesLater}
-use Rattle.tsp_top.specs.PlannedChain.{chain_of, input_of, named_rules, output_name, stuffing_of, users_from, users_of}
+use Rattle.tsp_top.specs.PlannedChain.{GivenInput, given_of, chain_of, chain_on, bytes_of_packets, input_of, GivesFile, GivesInput, named_rules, output_name, stuffing_of, users_from, users_of}
 use Rattle.tsp_top.specs.PlannedTables.{AreTables, tables_asked}
-use Rattle.tsp_top.specs.Faults.{has_faults}
+use Rattle.tsp_top.specs.Faults.{run_faults}
+use Rattle.tsp_top.specs.LeftOut.{LeftOut}
 use Rattle.tsp_top.specs.Printed.{reported_as}
 use Rattle.chain_live.specs.LiveReports.{LiveLine, lines_below}
 use Rattle.tsp_top.specs.StreamTheorem.{EndsRight, IsWrittenTo, Writes, Reports, ReportsPart}
 use Rattle.tsp_top.specs.TspCall.{CallsPlan, CallsTsp}
-use Rattle.tsp_top.specs.Headline.{TellsInput, TellsTables, IsPureOrWants, IsPureOrEnds, IsDoneOrWants, EndsWell, SameButSizes, pure_status}
+use Rattle.tsp_top.specs.Headline.{TellsInput, TellsTables, IsPureCall, IsPureOrWants, IsPureOrEnds, IsDoneOrWants, EndsWell, SameButSizes, pure_status}
 use Rattle.tsp_top.specs.WantsMemory.{WantsMemoryFirst}
 use Rattle.tsp_top.specs.declared.status.Status.{Status}
 use Rattle.tsp_top.specs.declared.status.Status.TheVariants as status
@@ -75,11 +75,12 @@ only-memory (Refuse j reason) fault no_write no_read = cc
 only-memory WriteFault fault no_write no_read = absurd (no_write refl)
 only-memory (NoMemory k) fault no_write no_read = refl
 
-module _ (plan : Plan) (tables : List (List (List ℕ))) (files : List (List ℕ × List ℕ)) (old new : DeskView) (answer : Status) (fine : NothingFails old new) where
+module _ (plan : Plan) (tables : List (List (List ℕ))) (given : GivenInput) (old new : DeskView) (answer : Status) (fine : NothingFails old new) where
   abbrev chain : Chain
-  chain = chain_of plan tables files
+  chain = chain_on plan tables given
 
-  by-end : (end : CallOutcome) → StatusTellsCause plan chain old new answer end → EndsRight chain end → Writes plan chain old new end → Reports plan chain old new end → IsPureOrWants plan tables files old new answer
+  by-end : (end : CallOutcome) → StatusTellsCause plan given.left_out chain old new answer end → EndsRight chain end → Writes plan chain old new end → Reports plan given.left_out chain old new end
+      → (answer ≡ status.NoMemory) ⊎ IsPureCall plan tables given old new answer
   by-end no_input tells right writes reports = absurd (quiet-no_cause old.read_faults new.read_faults fine.reads tells.1)
   by-end no_output tells right writes reports = absurd (quiet-no_cause old.write_faults new.write_faults fine.writes tells.1)
   by-end (ran cut why true) tells right writes reports =
@@ -93,14 +94,14 @@ module _ (plan : Plan) (tables : List (List (List ℕ))) (files : List (List ℕ
         | inl pure ↦ inr (record {
           written = writes.1 ∙ ap (λ l. outputs_with (output_name plan.output) old.outputs l) (whole-bytes chain cut why writes.0 faults.0 writes.2 ∙ ap (written_to chain) pure.0);
           reported = elim reports [
-            | inl whole ↦ whole.0 ∙ ap (λ l. grown old.reported l) (ap (λ m. reported_as plan.general chain m why) pure.0 ∙ ap (reported_as plan.general chain (chain_cut chain)) pure.1)
+            | inl whole ↦ whole.0 ∙ ap (λ l. grown old.reported l) (ap (λ m. reported_as plan.general given.left_out chain m why) pure.0 ∙ ap (reported_as plan.general given.left_out chain (chain_cut chain)) pure.1)
             | inr part ↦ absurd (quiet-no_cause old.report_faults new.report_faults fine.reports part.3)
           ];
           answered = tells.0
-              ∙ (ap (λ m. status_in_time plan.general (has_faults chain m) why) pure.0
-              ∙ ap (status_in_time plan.general (has_faults chain (chain_cut chain))) pure.1);
+              ∙ (ap (λ m. status_in_time plan.general (run_faults plan.general given.left_out chain m why) why) pure.0
+              ∙ ap (λ w. status_in_time plan.general (run_faults plan.general given.left_out chain (chain_cut chain) w) w) pure.1);
         })
-        | inr fault ↦ inl (tells.0 ∙ ap (in_place_of_done (done_status plan.general (has_faults chain cut) why)) (only-memory why fault.fault faults.0 faults.1))
+        | inr fault ↦ inl (tells.0 ∙ ap (in_place_of_done (done_status plan.general (run_faults plan.general given.left_out chain cut why) why)) (only-memory why fault.fault faults.0 faults.1))
       ]
   by-end (unreported cut why) tells right writes reports = inl tells.0
   by-end out_of_memory tells right writes reports = inl tells
@@ -129,7 +130,7 @@ planned-call words plan old new answer is calls =
 pure-or-ends : (plan : Plan) (old new : DeskView) (answer : Status) → CallsPlan plan old new answer → NothingFails old new → IsPureOrEnds plan old new answer
 pure-or-ends plan old new answer (inl runs) fine =
     let t = runs.theorem in
-    elim (by-end plan runs.tables t.files (tables_asked old plan) new answer (record { reads = fine.reads; writes = fine.writes; reports = fine.reports })
+    elim (by-end plan runs.tables t.given (tables_asked old plan) new answer (record { reads = fine.reads; writes = fine.writes; reports = fine.reports })
     t.end t.status_tells_cause t.pure_or_fault t.written t.reported) [
       | inl wants ↦ inl wants
       | inr pure ↦ inr (inl (record {
@@ -137,6 +138,8 @@ pure-or-ends plan old new answer (inl runs) fine =
         tables_are = runs.tables_are;
         files = t.files;
         files_are = t.files_are;
+        given = t.given;
+        given_is = t.given_is;
         pure = record { written = pure.written; reported = pure.reported; answered = pure.answered };
       }))
     ]
@@ -151,22 +154,28 @@ of-some words plan old new answer is calls fine =
       | inr wanting ↦ inl wanting.0
     ]
 
--- a plan's chain over two lists of files, where the input's bytes are known, is one
-same-input : (conf : InputConf) (desk : DeskView) (files other : List (List ℕ × List ℕ)) → TellsInput conf desk files → IfSome desk.files (λ told. other ≡ told)
-    → input_of conf other ≡ input_of conf files
-same-input (input.File name form) desk files other tells is =
-    let same : other ≡ files = subst (λ (o : Option (List (List ℕ × List ℕ))). IfSome o (λ told. other ≡ told)) tells is in
-    ap (λ (fs : List (List ℕ × List ℕ)). input_of_bytes (stripped form (file_of fs name))) same
-same-input (input.Null count) desk files other tells is = refl
-same-input (input.TestGen seed count) desk files other tells is = refl
+-- what the input of a plan gives, where its bytes are known, is that of the files
+file-given : (resync : Bool) (told : Option (List (List ℕ × List ℕ))) (files : List (List ℕ × List ℕ)) (known given : GivenInput) → told ≡ Some files → GivesFile resync told known given → given ≡ known
+file-given true None files known given tells gives = absurd cc
+file-given true (Some t) files known given tells gives = gives
+file-given false told files known given tells gives = gives
 
-same-chain : (plan : Plan) (old : DeskView) (tables some : List (List (List ℕ))) (files other : List (List ℕ × List ℕ))
+same-input : (conf : InputConf) (desk : DeskView) (files other : List (List ℕ × List ℕ)) (given : GivenInput) → TellsInput conf desk files → IfSome desk.files (λ told. other ≡ told)
+    → GivesInput conf desk.files other given → given ≡ input_of conf files
+same-input (input.File name form resync) desk files other given tells is gives =
+    let same : other ≡ files = subst (λ (o : Option (List (List ℕ × List ℕ))). IfSome o (λ told. other ≡ told)) tells is in
+    file-given resync desk.files files (input_of (input.File name form resync) other) given tells gives
+    ∙ ap (λ (fs : List (List ℕ × List ℕ)). given_of resync form (file_of fs name)) same
+same-input (input.Null count) desk files other given tells is gives = gives
+same-input (input.TestGen seed count) desk files other given tells is gives = gives
+
+same-chain : (plan : Plan) (old : DeskView) (tables some : List (List (List ℕ))) (files other : List (List ℕ × List ℕ)) (given : GivenInput)
     → TellsInput plan.input old files → TellsTables plan.plugins old files → AreTables old plan.plugins tables → AreTables old plan.plugins some → IfSome old.files (λ told. other ≡ told)
-    → chain_of plan some other ≡ chain_of plan tables files
-same-chain plan old tables some files other tells tells_tables are some_are is =
-    let C : List (List (List ℕ)) → InputList → Chain = λ t i. record { input = stuffed (stuffing_of plan.general) i; plugins = named_rules plan.plugins t; users = users_of plan } in
-    ap (λ (t : List (List (List ℕ))). C t (input_of plan.input other)) (tables-same old files plan.plugins some tables tells_tables some_are are)
-    ∙ ap (λ (i : InputList). C tables i) (same-input plan.input old files other tells is)
+    → GivesInput plan.input old.files other given → chain_on plan some given ≡ chain_of plan tables files
+same-chain plan old tables some files other given tells tells_tables are some_are is gives =
+    let C : List (List (List ℕ)) → GivenInput → Chain = λ t i. record { input = stuffed (stuffing_of plan.general) i.list; plugins = named_rules plan.plugins t; users = users_of plan } in
+    ap (λ (t : List (List (List ℕ))). C t given) (tables-same old files plan.plugins some tables tells_tables some_are are)
+    ∙ ap (λ (i : GivenInput). C tables i) (same-input plan.input old files other given tells is gives)
 
 pub headline : (words : List (List ℕ)) (plan : Plan) (tables : List (List (List ℕ))) (files : List (List ℕ × List ℕ)) (old new : DeskView) (answer : Status)
     → plan_of words ≡ Some plan → TellsInput plan.input old files → TellsTables plan.plugins old files → AreTables old plan.plugins tables
@@ -175,11 +184,14 @@ headline words plan tables files old new answer is tells tells_tables are calls 
     elim (of-some words plan old new answer is calls fine) [
       | inl wants ↦ inl wants
       | inr other ↦ elim other [
-        | inl some ↦ (let same : chain_of plan some.tables some.files ≡ chain_of plan tables files =
-            same-chain plan old tables some.tables files some.files tells tells_tables are some.tables_are some.files_are in inr (record {
+        | inl some ↦ (let same : chain_on plan some.tables some.given ≡ chain_of plan tables files =
+            same-chain plan old tables some.tables files some.files some.given tells tells_tables are some.tables_are some.files_are some.given_is in
+            let left : some.given.left_out ≡ (input_of plan.input files).left_out = ap (λ (g : GivenInput). g.left_out) (same-input plan.input old files some.files some.given tells some.files_are some.given_is) in inr (record {
               written = some.pure.written ∙ ap (λ (c : Chain). outputs_with (output_name plan.output) old.outputs (pure_run c).written) same;
-              reported = some.pure.reported ∙ ap (λ (c : Chain). grown old.reported (reported_as plan.general c (chain_cut c) (chain_cause c))) same;
-              answered = some.pure.answered ∙ ap (λ (c : Chain). pure_status plan.general c) same;
+              reported = some.pure.reported ∙ ap (λ (o : Option LeftOut). grown old.reported (reported_as plan.general o (chain_on plan some.tables some.given) (chain_cut (chain_on plan some.tables some.given)) (chain_cause (chain_on plan some.tables some.given)))) left
+                  ∙ ap (λ (c : Chain). grown old.reported (reported_as plan.general (input_of plan.input files).left_out c (chain_cut c) (chain_cause c))) same;
+              answered = some.pure.answered ∙ ap (λ (o : Option LeftOut). pure_status plan.general o (chain_on plan some.tables some.given)) left
+                  ∙ ap (λ (c : Chain). pure_status plan.general (input_of plan.input files).left_out c) same;
             }))
         | inr ends ↦ absurd (no-end old files plan.plugins tables new answer tells_tables are (quiet-no_cause old.read_faults new.read_faults fine.reads) ends)
       ]
@@ -206,14 +218,14 @@ completeness words plan tables files old new answer is tells tells_tables are ca
     elim (headline words plan tables files old new answer is tells tells_tables are calls fine) [
       | inl wants ↦ inr wants
       | inr pure ↦ inl (pure.answered
-          ∙ ap (in_place_of_done (done_status plan.general (has_faults (chain_of plan tables files) (chain_cut (chain_of plan tables files))) (chain_cause (chain_of plan tables files)))) (well-done (pure_run (chain_of plan tables files)).cause well))
+          ∙ ap (in_place_of_done (done_status plan.general (run_faults plan.general (input_of plan.input files).left_out (chain_of plan tables files) (chain_cut (chain_of plan tables files)) (chain_cause (chain_of plan tables files))) (chain_cause (chain_of plan tables files)))) (well-done (pure_run (chain_of plan tables files)).cause well))
     ]
 
 -- plans that differ in their sizes alone have one chain
 pub same-but-sizes : (one other : Plan) (tables : List (List (List ℕ))) (files : List (List ℕ × List ℕ)) → SameButSizes one other → chain_of other tables files ≡ chain_of one tables files
 same-but-sizes one other tables files same =
-    let S : Stuffing → InputConf → Chain = λ s i. record { input = stuffed s (input_of i files); plugins = named_rules other.plugins tables; users = users_of other } in
-    let U : List PluginItem → Bool → Chain = λ items ignored. record { input = stuffed (stuffing_of one.general) (input_of one.input files); plugins = named_rules items tables; users = if ignored then [] else users_from 1 items } in
+    let S : Stuffing → InputConf → Chain = λ s i. record { input = stuffed s (input_of i files).list; plugins = named_rules other.plugins tables; users = users_of other } in
+    let U : List PluginItem → Bool → Chain = λ items ignored. record { input = stuffed (stuffing_of one.general) (input_of one.input files).list; plugins = named_rules items tables; users = if ignored then [] else users_from 1 items } in
     let stuffing : stuffing_of other.general ≡ stuffing_of one.general = cc (same.start, same.stop, same.between) in
     ap (λ (s : Stuffing). S s other.input) stuffing
     ∙ ap (λ (i : InputConf). S (stuffing_of one.general) i) same.input
@@ -246,8 +258,8 @@ part-behind false bare lines plan old new part = part
 part-behind true bare lines plan old new part = record { first = part.first; begins = part.begins; reported = part.reported }
 
 -- what is left where memory ran out, of plugins that take their room first
-module _ (plan : Plan) (tables : List (List (List ℕ))) (files : List (List ℕ × List ℕ)) (old new : DeskView) (tables_are : AreTables old plan.plugins tables) (files_are : IfSome old.files (λ told. files ≡ told))
-    (preallocated : ArePreallocated plan.plugins) where
+module _ (plan : Plan) (tables : List (List (List ℕ))) (files : List (List ℕ × List ℕ)) (given : GivenInput) (old new : DeskView) (tables_are : AreTables old plan.plugins tables) (files_are : IfSome old.files (λ told. files ≡ told))
+    (given_is : GivesInput plan.input old.files files given) (preallocated : ArePreallocated plan.plugins) where
   abbrev behind : DeskView
   behind = tables_asked old plan
 
@@ -272,23 +284,25 @@ module _ (plan : Plan) (tables : List (List (List ℕ))) (files : List (List ℕ
   not-done faulty WriteFault false none is = cc
   not-done faulty (NoMemory k) late none is = none k refl
 
-  wants-first : (end : CallOutcome) → StatusTellsCause plan (chain_of plan tables files) behind new status.NoMemory end → CanEnd plan end → EndsRight (chain_of plan tables files) end
-      → Writes plan (chain_of plan tables files) behind new end → Reports plan (chain_of plan tables files) behind new end → WantsMemoryFirst plan old new
+  wants-first : (end : CallOutcome) → StatusTellsCause plan given.left_out (chain_on plan tables given) behind new status.NoMemory end → CanEnd plan end → EndsRight (chain_on plan tables given) end
+      → Writes plan (chain_on plan tables given) behind new end → Reports plan given.left_out (chain_on plan tables given) behind new end → WantsMemoryFirst plan old new
   wants-first no_input tells first right writes reports = absurd (let e = tells.0 in cc)
   wants-first no_output tells first right writes reports = absurd (let e = tells.0 in cc)
-  wants-first (ran cut why late) tells first right writes reports = absurd (not-done (has_faults (chain_of plan tables files) cut) why late (no-want plan why preallocated first) tells.0)
+  wants-first (ran cut why late) tells first right writes reports = absurd (not-done (run_faults plan.general given.left_out (chain_on plan tables given) cut why) why late (no-want plan why preallocated first) tells.0)
   wants-first (unreported cut why) tells first right writes reports =
       inr (record {
         tables = tables;
         tables_are = tables_are;
         files = files;
         files_are = files_are;
+        given = given;
+        given_is = given_is;
         cut = cut;
         why = why;
         no_want = no-want plan why preallocated first;
         pure_or_fault = right;
         written = writes;
-        reported = part-behind plan.general.live plan.general.bare (lines_below (chain_of plan tables files) cut) plan old new reports;
+        reported = part-behind plan.general.live plan.general.bare (lines_below (chain_on plan tables given) cut) plan old new reports;
       })
   wants-first out_of_memory tells first right writes reports =
       inl (reports, elim writes [ inl none ↦ inl none | inr empty ↦ inr empty ])
@@ -303,8 +317,8 @@ wants-at-once plan old new same = inl (
 planned-first : (plan : Plan) (old new : DeskView) (answer : Status) → ArePreallocated plan.plugins → CallsPlan plan old new answer → answer ≡ status.NoMemory → WantsMemoryFirst plan old new
 planned-first plan old new answer preallocated (inl runs) want =
     let t = runs.theorem in
-    wants-first plan runs.tables t.files old new runs.tables_are t.files_are preallocated t.end
-    (subst (λ (s : Status). StatusTellsCause plan (chain_of plan runs.tables t.files) (tables_asked old plan) new s t.end) want t.status_tells_cause) t.can_end t.pure_or_fault t.written t.reported
+    wants-first plan runs.tables t.files t.given old new runs.tables_are t.files_are t.given_is preallocated t.end
+    (subst (λ (s : Status). StatusTellsCause plan t.given.left_out (chain_on plan runs.tables t.given) (tables_asked old plan) new s t.end) want t.status_tells_cause) t.can_end t.pure_or_fault t.written t.reported
 planned-first plan old new answer preallocated (inr (inl ends)) want =
     absurd (ends-not-wanting (length ends.before + 1) ends.ends.2.end (sym want ∙ ends.ends.2.status_is))
 planned-first plan old new answer preallocated (inr (inr wants)) want = inl (

@@ -8,6 +8,7 @@ pub mod LiveLemmas
 pub mod PrintedLemmas
 pub mod EndLemmas
 pub mod SinkLemmas
+pub mod GapLemmas
 pub mod SourceLemmas
 pub mod CutLemmas
 pub mod StreamLemmas

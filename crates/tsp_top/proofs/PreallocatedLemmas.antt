@@ -16,7 +16,7 @@ pub preallocated-fails_not : (old new : PreallocatedDeskView) → NothingFails (
 preallocated-fails_not old new = record { reads = quiet; writes = quiet; reports = quiet }
 
 pub preallocated-tells : (conf : InputConf) (desk : PreallocatedDeskView) → TellsInput conf (preallocated_desk desk) desk.files
-preallocated-tells (input.File name form) desk = refl
+preallocated-tells (input.File name form resync) desk = refl
 preallocated-tells (input.Null count) desk = tt
 preallocated-tells (input.TestGen seed count) desk = tt
 

@@ -1,5 +1,5 @@
 -- The stream theorem of a call whose two ends were opened.
-use Rattle.std.proofs.Common.{◌≡◌, ◌≢◌, ◌⊎◌, ℕ, zero, suc, ◌-◌, ◌<◌, List, [], ◌∷◌, ◌++◌, length, map, take, Bool, true, false, ◌||◌, Option, None, Some, IfSome, refl, ap, sym, ◌∙◌, subst, inl, inr, arith}
+use Rattle.std.proofs.Common.{◌≡◌, ◌≢◌, ◌⊎◌, ℕ, zero, suc, ◌-◌, ◌<◌, List, [], ◌∷◌, ◌++◌, length, map, take, Bool, true, false, ◌||◌, if◌then◌else◌, Option, None, Some, IfSome, refl, ap, sym, ◌∙◌, subst, inl, inr, arith}
 use Rattle.std.specs.Bool.{OnTrue}
 use Rattle.std.specs.Prelude.{slice_index_or}
 use Rattle.std.proofs.lemmas.List.{take_all, length-map}
@@ -29,6 +29,7 @@ use Rattle.stage_run.specs.declared.input_part.InputPart.{InputPart}
 use Rattle.stage_run.specs.declared.output_part.OutputPart.{OutputPart}
 use Rattle.stage_run.specs.InputStands as stage
 use Rattle.stage_run.specs.declared.stuffing.Stuffing.{Stuffing}
+use Rattle.search_source.specs.declared.file_source.KeptGaps.{KeptGaps}
 use Rattle.ts_outside.specs.Count.{HasCause}
 use Rattle.ts_outside.specs.declared.requests.Asked.{Asked}
 use Rattle.ts_outside.specs.declared.requests.Purpose.TheVariants as Purpose
@@ -40,15 +41,16 @@ use Rattle.ts_outside.specs.Saying.{Says}
 use Rattle.ts_outside.specs.Entries.{asked_for, outputs_with}
 use Rattle.chain_run.specs.RunOf.{LeftInput, LeftOutput, RunBy}
 use Rattle.chain_live.specs.LiveReports.{LiveLine, lines_below}
-use Rattle.plugin_set.specs.Plugins.{preallocated_of}
+use Rattle.plugin_set.specs.Items.{preallocated_of_item}
 use Rattle.tsp_top.specs.CallOutcome.{ran, unreported, out_of_memory, run_status, status_of, FaultRose, LateRose}
 use Rattle.tsp_top.specs.CanEnd.{CanEndBy}
 use Rattle.tsp_top.specs.MemoryFirst.{TakesLater}
 use Rattle.tsp_top.specs.Openings.{asked_input, asked_output, input_closed_as, output_closed_as, OpensInput, OpensOutput, IsThrough, WasOpened}
-use Rattle.tsp_top.specs.PlannedChain.{chain_of, input_of, stuffing_of, users_of, named_rules, input_name, output_name}
+use Rattle.tsp_top.specs.PlannedChain.{GivenInput, chain_on, GivesInput, stuffing_of, users_of, named_rules, input_name, output_name}
 use Rattle.tsp_top.specs.Ran.{IsReady, RanEnds, RanOpened, chain_over, closed_desk}
-use Rattle.tsp_top.specs.Faults.{faults_from, has_faults}
-use Rattle.tsp_top.specs.Printed.{live_text, reported_as}
+use Rattle.tsp_top.specs.Faults.{faults_from, run_faults}
+use Rattle.tsp_top.specs.LeftOut.{KnowsAll, input_faulty, kept_out}
+use Rattle.tsp_top.specs.Printed.{live_asked, live_text, reported_as, reports_asked}
 use Rattle.tsp_top.specs.Readings.{ReadsTo}
 use Rattle.tsp_top.specs.Reported.{ReportsAsked, StandsUnreported}
 use Rattle.tsp_top.specs.Sizes.{default_buffer}
@@ -59,7 +61,7 @@ use Rattle.tsp_top.specs.declared.status.Status.TheVariants as status
 use Rattle.tsp_top.proofs.CutLemmas.{written-begins}
 use Rattle.tsp_top.proofs.DeskLemmas.{SameOutside, SameCounts, LeavesAll, leaves-all, same-asked_input, same-both, asked-both, leaves-input_closed, outputs-input_closed, write_faults-input_closed, leaves-output_closed, read_faults-output_closed, closed_in-output_closed, leaves-says}
 use Rattle.tsp_top.proofs.SinkLemmas.{TookBytes, outputs-took, outputs-empty, write_fault-counted, closing-counted, write_faults-stay, write-named, closing-named}
-use Rattle.tsp_top.proofs.SourceLemmas.{FilesOf, some-files, read_fault-counted, opened-list, reads-nothing, reads-to, read-named, size-within}
+use Rattle.tsp_top.proofs.SourceLemmas.{FilesOf, some-files, some-input, read_fault-counted, opened-list, reads-nothing, reads-to, read-named, size-within}
 use Rattle.tsp_top.proofs.StreamLemmas.{can-end, reports-text, report-rose, report-stays, fault-rose, late-rose}
 
 -- what was asked for where both ends were opened
@@ -81,42 +83,47 @@ record Desks (plan : Plan) (old made closed_in closed_out : DeskView) : Type 0 w
   first_outputs : (asked_input old plan.input).outputs ≡ old.outputs
 
 -- what holds of a run whose ends were opened and closed, of the desk when all is over
-record RanFacts (plan : Plan) (tables : List (List (List ℕ))) (files : List (List ℕ × List ℕ)) (old new : DeskView) (cut : ℕ) (why : Cause) : Type 0 where
+record RanFacts (plan : Plan) (tables : List (List (List ℕ))) (files : List (List ℕ × List ℕ)) (given : GivenInput) (old new : DeskView) (cut : ℕ) (why : Cause) : Type 0 where
   files_are : IfSome old.files (λ told. files ≡ told)
+  given_is : GivesInput plan.input old.files files given
   rose : FaultRose old new why
   can : CanEndBy plan why
-  closes : IsPureOrFault (chain_of plan tables files) cut why
+  closes : IsPureOrFault (chain_on plan tables given) cut why
   reads : ReadsTo plan.general plan.input files old new cut why
-  written : WritesTo plan (chain_of plan tables files) old new cut why
+  written : WritesTo plan (chain_on plan tables given) old new cut why
   asked : new.asked ≡ grown old.asked (both_asked plan)
   files_stay : new.files ≡ old.files
 
 -- a run that was reported
-reported-theorem : (plan : Plan) (tables : List (List (List ℕ))) (files : List (List ℕ × List ℕ)) (old made new : DeskView) (cut : ℕ) (why : Cause) (late said : Bool) (st : Status)
-    → RanFacts plan tables files old new cut why → LateRose (output_name plan.output) old new why late
-    → st ≡ run_status plan.general (has_faults (chain_of plan tables files) cut) why late
-    → made.reported ≡ old.reported → made.report_faults ≡ old.report_faults → Says made new (reported_as plan.general (chain_of plan tables files) cut why) said → StreamTheorem plan tables old new st
-reported-theorem plan tables files old made new cut why late said st facts rose told reported report_faults says = record {
+reported-theorem : (plan : Plan) (tables : List (List (List ℕ))) (files : List (List ℕ × List ℕ)) (given : GivenInput) (old made new : DeskView) (cut : ℕ) (why : Cause) (late said : Bool) (st : Status)
+    → RanFacts plan tables files given old new cut why → LateRose (output_name plan.output) old new why late
+    → st ≡ run_status plan.general (run_faults plan.general given.left_out (chain_on plan tables given) cut why) why late
+    → made.reported ≡ old.reported → made.report_faults ≡ old.report_faults → Says made new (reported_as plan.general given.left_out (chain_on plan tables given) cut why) said → StreamTheorem plan tables old new st
+reported-theorem plan tables files given old made new cut why late said st facts rose told reported report_faults says = record {
   end = ran cut why late;
   files = files;
   files_are = facts.files_are;
+  given = given;
+  given_is = facts.given_is;
   status_tells_cause = (told, facts.rose, rose);
   can_end = facts.can;
   pure_or_fault = facts.closes;
   reads = facts.reads;
   written = facts.written;
-  reported = reports-text old made new (reported_as plan.general (chain_of plan tables files) cut why) said reported report_faults says;
+  reported = reports-text old made new (reported_as plan.general given.left_out (chain_on plan tables given) cut why) said reported report_faults says;
   opened = facts.asked;
   files_stay = facts.files_stay;
 }
 
 -- a run for whose report there was no memory
-unreported-theorem : (plan : Plan) (tables : List (List (List ℕ))) (files : List (List ℕ × List ℕ)) (old new : DeskView) (cut : ℕ) (why : Cause) (st : Status)
-    → RanFacts plan tables files old new cut why → st ≡ NoMemory → ReportsPart plan.general.live plan.general.bare (lines_below (chain_of plan tables files) cut) old new → StreamTheorem plan tables old new st
-unreported-theorem plan tables files old new cut why st facts told reported = record {
+unreported-theorem : (plan : Plan) (tables : List (List (List ℕ))) (files : List (List ℕ × List ℕ)) (given : GivenInput) (old new : DeskView) (cut : ℕ) (why : Cause) (st : Status)
+    → RanFacts plan tables files given old new cut why → st ≡ NoMemory → ReportsPart plan.general.live plan.general.bare (lines_below (chain_on plan tables given) cut) old new → StreamTheorem plan tables old new st
+unreported-theorem plan tables files given old new cut why st facts told reported = record {
   end = unreported cut why;
   files = files;
   files_are = facts.files_are;
+  given = given;
+  given_is = facts.given_is;
   status_tells_cause = (told, facts.rose);
   can_end = facts.can;
   pure_or_fault = facts.closes;
@@ -194,10 +201,13 @@ not-run in_seen inner out_seen plan tables old made new from to failed st opened
     let all : List Asked = both_asked plan in
     let empty = outputs-empty out_seen (asked_input old plan.input) (input_closed_as inner made from) plan.output to failed opened.output desks.outputs in
     let files = some-files old in
+    let given = some-input plan.input old.files files.0 in
     record {
       end = out_of_memory;
       files = files.0;
       files_are = files.1;
+      given = given.0;
+      given_is = given.1;
       status_tells_cause = e;
       can_end = tt;
       pure_or_fault = tt;
@@ -212,12 +222,12 @@ not-run in_seen inner out_seen plan tables old made new from to failed st opened
     }
 
 -- the counts of faults of a run
-faults-rose : {S K : Type 0} (in_seen inner : S → SourceView) (out_seen : K → SinkView) (plan : Plan) (old made new : DeskView) (from made_from : InputPart S) (to made_to : OutputPart K) (failed : Bool)
+faults-rose : {S K : Type 0} (in_seen inner : S → SourceView) (out_seen : K → SinkView) (plan : Plan) (old made new : DeskView) (from made_from : InputPart S) (kept : Option KeptGaps) (to made_to : OutputPart K) (failed : Bool)
     (stuffing : model.Stuffing) (buffer : ℕ) (cells : List Cell) (cut : ℕ) (why : Cause)
     → Opened in_seen inner out_seen plan old made from to
-    → IsThrough in_seen inner made_from → LeftInput in_seen stuffing buffer from made_from cut why → LeftOutput out_seen to made_to cells cut why
+    → IsThrough in_seen inner made_from kept → LeftInput in_seen stuffing buffer from made_from cut why → LeftOutput out_seen to made_to cells cut why
     → LeavesAll (closed_desk inner out_seen made made_from made_to failed) new → FaultRose old new why
-faults-rose in_seen inner out_seen plan old made new from made_from to made_to failed stuffing buffer cells cut why opened through input output leaves =
+faults-rose in_seen inner out_seen plan old made new from made_from kept to made_to failed stuffing buffer cells cut why opened through input output leaves =
     let d2 : DeskView = input_closed_as inner made made_from in
     let desks = desks inner out_seen plan old made made_from made_to failed opened.asked in
     let R : ℕ → Type 0 = λ n. HasCause old.read_faults n in
@@ -226,7 +236,7 @@ faults-rose in_seen inner out_seen plan old made new from made_from to made_to f
     let W0 : ℕ → Type 0 = λ n. HasCause n (closed_desk inner out_seen made made_from made_to failed).write_faults in
     fault-rose old new why
     (λ is. subst R (sym (leaves.read_faults ∙ desks.reads))
-    (subst R0 desks.made_reads (read_fault-counted in_seen inner old made plan.input from made_from stuffing buffer cut why opened.input through input is)))
+    (subst R0 desks.made_reads (read_fault-counted in_seen inner old made plan.input from made_from kept stuffing buffer cut why opened.input through input is)))
     (λ is. subst W (sym leaves.write_faults)
     (subst W0 desks.writes (write_fault-counted out_seen (asked_input old plan.input) d2 plan.output to made_to cells cut why failed opened.output output is)))
 
@@ -279,7 +289,7 @@ WritesOf plan old new cut why rules list users =
 
 -- a plugin that made no room for the buffer does not take it before the run
 takes-later : (items : List PluginItem) (buffer j : ℕ) → j < length items
-    → (IsPreallocatedFor (slice_index_or (map (λ item. preallocated_of item.conf buffer) items) j None) buffer → ⊥) → TakesLater items j
+    → (IsPreallocatedFor (slice_index_or (map (λ item. preallocated_of_item item buffer) items) j None) buffer → ⊥) → TakesLater items j
 takes-later [] buffer j less no_room = absurd (omega arith)
 takes-later (item ∷ items) buffer zero less no_room = λ preallocated.
     let S : Option ℕ → Type 0 = λ o. IsPreallocatedFor o buffer in
@@ -287,9 +297,9 @@ takes-later (item ∷ items) buffer zero less no_room = λ preallocated.
     no_room (subst S (sym (preallocated buffer)) enough)
 takes-later (item ∷ items) buffer (suc j) less no_room = takes-later items buffer j (omega arith) no_room
 
-module _ {S K P : Type 0} (see : Seeing S K P) (stands : Heard P → List Cell → ℕ → Type 0) (inner : S → SourceView) (plan : Plan) (tables : List (List (List ℕ))) (old made new : DeskView) (from made_from : InputPart S) (stuffing : Stuffing)
+module _ {S K P : Type 0} (see : Seeing S K P) (stands : Heard P → List Cell → ℕ → Type 0) (inner : S → SourceView) (plan : Plan) (tables : List (List (List ℕ))) (old made new : DeskView) (from made_from : InputPart S) (kept : Option KeptGaps) (stuffing : Stuffing)
     (plugins : List (Heard P)) (to made_to : OutputPart K) (failed : Bool) (numbers : CorePlan) (closed : Closed)
-    (opened : Opened see.source inner see.sink plan old made from to) (through : IsThrough see.source inner made_from)
+    (opened : Opened see.source inner see.sink plan old made from to) (through : IsThrough see.source inner made_from kept)
     (ready : IsReady see.rule see.stands see.preallocated plan tables stuffing numbers plugins) where
   abbrev d2 : DeskView
   d2 = input_closed_as inner made made_from
@@ -311,26 +321,26 @@ module _ {S K P : Type 0} (see : Seeing S K P) (stands : Heard P → List Cell �
     cells = (end_list own run.list).cells
 
     -- the files whose input the run had
-    abbrev chosen : FilesOf old plan.input (stuffing_of plan.general) run.list
-    chosen = subst (λ (s : model.Stuffing). FilesOf old plan.input s run.list) ready.stuffing_is
-        (opened-list see.source inner old plan.input from (stage.stuffing_of stuffing) run.list opened.input run.is_list)
+    abbrev chosen : FilesOf old plan.input (stuffing_of plan.general) run.list kept
+    chosen = subst (λ (s : model.Stuffing). FilesOf old plan.input s run.list kept) ready.stuffing_is
+        (opened-list see.source inner old plan.input from made_from (stage.stuffing_of stuffing) run.list kept numbers.buffer closed.cut closed.cause ready.every opened.input run.is_list through run.input)
 
     -- what holds of the run's lists holds of the plan's chain
     of-plan : (F : List PluginRule → StageList → List ℕ → Type 0) → F own run.list users
-        → F (chain_rules (chain_of plan tables chosen.files)) (chain_of plan tables chosen.files).input (chain_of plan tables chosen.files).users
+        → F (chain_rules (chain_on plan tables chosen.given)) (chain_on plan tables chosen.given).input (chain_on plan tables chosen.given).users
     of-plan F h =
-        subst-three F own (rules_of (named_rules plan.plugins tables)) run.list (stuffed (stuffing_of plan.general) (input_of plan.input chosen.files)) users (users_of plan)
+        subst-three F own (rules_of (named_rules plan.plugins tables)) run.list (stuffed (stuffing_of plan.general) chosen.given.list) users (users_of plan)
         ready.rules chosen.list_is ready.numbers_are.users h
 
     want : (k : ℕ) → closed.cause ≡ cause.NoMemory k → CanEndBy plan (cause.NoMemory k)
     want zero is = absurd (let a = (run.memory zero is).after_input in omega arith)
     want (suc j) is =
         let wants = run.memory (suc j) is in
-        let same : length (map (heard_preallocated see) plugins) ≡ length plan.plugins = ap (λ (l : List (Option ℕ)). length l) ready.rooms ∙ length-map plan.plugins (λ item. preallocated_of item.conf numbers.buffer) in
+        let same : length (map (heard_preallocated see) plugins) ≡ length plan.plugins = ap (λ (l : List (Option ℕ)). length l) ready.rooms ∙ length-map plan.plugins (λ item. preallocated_of_item item numbers.buffer) in
         let at : suc j - 1 ≡ j = omega arith in
         let F : List (Option ℕ) → ℕ → Type 0 = λ rooms i. IsPreallocatedFor (slice_index_or rooms i None) numbers.buffer → ⊥ in
-        let no_room : F (map (λ item. preallocated_of item.conf numbers.buffer) plan.plugins) j =
-        subst (λ (i : ℕ). F (map (λ item. preallocated_of item.conf numbers.buffer) plan.plugins) i) at (subst (λ (rooms : List (Option ℕ)). F rooms (suc j - 1)) ready.rooms wants.no_room) in
+        let no_room : F (map (λ item. preallocated_of_item item numbers.buffer) plan.plugins) j =
+        subst (λ (i : ℕ). F (map (λ item. preallocated_of_item item numbers.buffer) plan.plugins) i) at (subst (λ (rooms : List (Option ℕ)). F rooms (suc j - 1)) ready.rooms wants.no_room) in
         takes-later plan.plugins numbers.buffer j (let b = wants.there_is in omega arith) no_room
 
     writes : LeavesAll d3 new → WritesOf plan old new closed.cut closed.cause own run.list users
@@ -344,49 +354,61 @@ module _ {S K P : Type 0} (see : Seeing S K P) (stands : Heard P → List Cell �
           written-begins own run.list users closed.cut closed.cause took.part run.closes took.cut_part,
         )
 
-    ran-facts : LeavesAll d3 new → RanFacts plan tables chosen.files old new closed.cut closed.cause
+    ran-facts : LeavesAll d3 new → RanFacts plan tables chosen.files chosen.given old new closed.cut closed.cause
     ran-facts leaves = record {
       files_are = chosen.files_are;
-      rose = faults-rose see.source inner see.sink plan old made new from made_from to made_to failed (stage.stuffing_of stuffing) numbers.buffer cells closed.cut closed.cause opened through run.input run.output leaves;
+      given_is = chosen.given_is;
+      rose = faults-rose see.source inner see.sink plan old made new from made_from kept to made_to failed (stage.stuffing_of stuffing) numbers.buffer cells closed.cut closed.cause opened through run.input run.output leaves;
       can = can-end plan closed.cause
           (read-named see.source inner old plan.input from made_from (stage.stuffing_of stuffing) numbers.buffer closed.cut closed.cause opened.input run.input)
           (write-named see.sink (asked_input old plan.input) plan.output to made_to cells closed.cut closed.cause opened.output run.output)
           want;
       closes = of-plan (λ rs l us. IsPureClose rs l us closed.cut closed.cause ⊎ IsValidFault rs l us closed.cut closed.cause) run.closes;
-      reads = reads-to see.source inner old made new chosen.files plan.general plan.input from made_from (stage.stuffing_of stuffing) numbers.buffer closed.cut closed.cause
+      reads = reads-to see.source inner old made new chosen.files plan.general plan.input from made_from kept (stage.stuffing_of stuffing) numbers.buffer closed.cut closed.cause
           ready.stuffing_is (size-within plan.general.buffer_packets default_buffer numbers.buffer ready.numbers_are.buffer) chosen.files_are opened.input through steps.made_inputs (leaves.closed_in ∙ steps.inputs) run.input;
       written = of-plan (WritesOf plan old new closed.cut closed.cause) (writes leaves);
       asked = leaves.asked ∙ steps.asked;
       files_stay = leaves.files ∙ steps.files;
     }
 
+    -- what is known where the run was reported
+    abbrev Known : Type 0
+    Known = KnowsAll (stuffing_of plan.general) kept closed.cut closed.cause
+
     -- the text of the run's report is that of the plan's chain
-    report-same : reported_as plan.general (chain_over plan tables run.list) closed.cut closed.cause ≡ reported_as plan.general (chain_of plan tables chosen.files) closed.cut closed.cause
-    report-same = ap (λ (l : StageList). reported_as plan.general (chain_over plan tables l) closed.cut closed.cause) chosen.list_is
+    report-same : Known → reported_as plan.general (kept_out kept) (chain_over plan tables run.list) closed.cut closed.cause ≡ reported_as plan.general chosen.given.left_out (chain_on plan tables chosen.given) closed.cut closed.cause
+    report-same known =
+        let chain = chain_on plan tables chosen.given in
+        ap (λ (l : StageList). reported_as plan.general (kept_out kept) (chain_over plan tables l) closed.cut closed.cause) chosen.list_is
+        ∙ ap (λ (said : List ℕ). if plan.general.live then live_asked plan.general.bare said chain closed.cut closed.cause else said ++ reports_asked plan.general chain.plugins chain.input closed.cut closed.cause)
+        (chosen.said plan.general.bare closed.cut closed.cause known).0
 
     -- and so are its lines
-    lines-same : lines_below (chain_over plan tables run.list) closed.cut ≡ lines_below (chain_of plan tables chosen.files) closed.cut
+    lines-same : lines_below (chain_over plan tables run.list) closed.cut ≡ lines_below (chain_on plan tables chosen.given) closed.cut
     lines-same = ap (λ (l : StageList). lines_below (chain_over plan tables l) closed.cut) chosen.list_is
 
     -- and so are its faults
-    faults-same : faults_from (rules_of (named_rules plan.plugins tables)) run.list closed.cut 0 (named_rules plan.plugins tables) ≡ has_faults (chain_of plan tables chosen.files) closed.cut
-    faults-same = ap (λ (l : StageList). faults_from (rules_of (named_rules plan.plugins tables)) l closed.cut 0 (named_rules plan.plugins tables)) chosen.list_is
+    faults-same : Known → (input_faulty (stuffing_of plan.general) (kept_out kept) closed.cut closed.cause || faults_from (rules_of (named_rules plan.plugins tables)) run.list closed.cut 0 (named_rules plan.plugins tables))
+        ≡ run_faults plan.general chosen.given.left_out (chain_on plan tables chosen.given) closed.cut closed.cause
+    faults-same known =
+        ap (λ (b : Bool). b || faults_from (rules_of (named_rules plan.plugins tables)) run.list closed.cut 0 (named_rules plan.plugins tables)) (chosen.said plan.general.bare closed.cut closed.cause known).1
+        ∙ ap (λ (l : StageList). input_faulty (stuffing_of plan.general) chosen.given.left_out closed.cut closed.cause || faults_from (rules_of (named_rules plan.plugins tables)) l closed.cut 0 (named_rules plan.plugins tables)) chosen.list_is
 
     -- a run that was closed, and then reported, or not where there was no memory for that
     ran-closed : (st : Status) → OnTrue failed (WasOpened made_to)
-        → ReportsAsked plan.general (reported_as plan.general (chain_over plan tables run.list) closed.cut closed.cause) (lines_below (chain_over plan tables run.list) closed.cut)
-        (faults_from (rules_of (named_rules plan.plugins tables)) run.list closed.cut 0 (named_rules plan.plugins tables)) closed.cause failed d3 new st → StreamTheorem plan tables old new st
+        → ReportsAsked plan.general (reported_as plan.general (kept_out kept) (chain_over plan tables run.list) closed.cut closed.cause) (lines_below (chain_over plan tables run.list) closed.cut)
+        (input_faulty (stuffing_of plan.general) (kept_out kept) closed.cut closed.cause || faults_from (rules_of (named_rules plan.plugins tables)) run.list closed.cut 0 (named_rules plan.plugins tables)) Known closed.cause failed d3 new st → StreamTheorem plan tables old new st
     ran-closed st closing (inl report) =
-        let text : List ℕ = reported_as plan.general (chain_of plan tables chosen.files) closed.cut closed.cause in
+        let text : List ℕ = reported_as plan.general chosen.given.left_out (chain_on plan tables chosen.given) closed.cut closed.cause in
         let T : List ℕ → Type 0 = λ t. Says d3 new t report.0 in
-        let says : Says d3 new text report.0 = subst T report-same report.1 in
+        let says : Says d3 new text report.0 = subst T (report-same report.3) report.1 in
         let facts = ran-facts (leaves-says d3 new text report.0 says) in
         let late = lates-rose see.source inner see.sink plan old made new from made_from to made_to failed report.0 text cells closed.cut closed.cause opened closing run.output says in
-        reported-theorem plan tables chosen.files old d3 new closed.cut closed.cause (failed || report.0) report.0 st facts late
-        (report.2 ∙ ap (λ (faulty : Bool). run_status plan.general faulty closed.cause (failed || report.0)) faults-same) steps.reported steps.report_faults says
+        reported-theorem plan tables chosen.files chosen.given old d3 new closed.cut closed.cause (failed || report.0) report.0 st facts late
+        (report.2 ∙ ap (λ (faulty : Bool). run_status plan.general faulty closed.cause (failed || report.0)) (faults-same report.3)) steps.reported steps.report_faults says
     ran-closed st closing (inr none) =
         let part = part-reported plan.general.live plan.general.bare (lines_below (chain_over plan tables run.list) closed.cut) old d3 new steps.reported steps.report_faults none.1 in
-        unreported-theorem plan tables chosen.files old new closed.cut closed.cause st (ran-facts part.0) none.0
+        unreported-theorem plan tables chosen.files chosen.given old new closed.cut closed.cause st (ran-facts part.0) none.0
         (subst (λ (l : List LiveLine). ReportsPart plan.general.live plan.general.bare l old new) lines-same part.1)
 
 -- a run between two opened ends
@@ -397,14 +419,14 @@ pub ran-theorem : {S K P : Type 0} (see : Seeing S K P) (stands : Heard P → Li
     → RanOpened see stands inner plan tables stuffing numbers made new from plugins to st
     → StreamTheorem plan tables old new st
 ran-theorem {S} {K} {P} see stands inner plan tables stuffing numbers old made new from plugins to st is opens_in opens_out ready run =
-    ran-ends run.made_from run.made_to run.failed run.failed_opened run.through run.ends
+    ran-ends run.made_from run.kept run.made_to run.failed run.failed_opened run.through run.ends
   where
-    ran-ends : (made_from : InputPart S) (made_to : OutputPart K) (failed : Bool) → OnTrue failed (WasOpened made_to) → IsThrough see.source inner made_from
-        → RanEnds see stands inner plan tables stuffing numbers made new from made_from plugins to made_to failed st → StreamTheorem plan tables old new st
-    ran-ends made_from made_to failed closing through (inl closed) =
+    ran-ends : (made_from : InputPart S) (kept : Option KeptGaps) (made_to : OutputPart K) (failed : Bool) → OnTrue failed (WasOpened made_to) → IsThrough see.source inner made_from kept
+        → RanEnds see stands inner plan tables stuffing numbers made new from made_from kept plugins to made_to failed st → StreamTheorem plan tables old new st
+    ran-ends made_from kept made_to failed closing through (inl closed) =
         let opened : Opened see.source inner see.sink plan old made from to = record { asked = is; input = opens_in; output = opens_out } in
-        ran-closed see stands inner plan tables old made new from made_from stuffing plugins to made_to failed numbers closed.0 opened through ready closed.1.made closed.1.run st closing closed.1.reported
-    ran-ends made_from made_to failed closing through (inr none) =
+        ran-closed see stands inner plan tables old made new from made_from kept stuffing plugins to made_to failed numbers closed.0 opened through ready closed.1.made closed.1.run st closing closed.1.reported
+    ran-ends made_from kept made_to failed closing through (inr none) =
         let opened : Opened see.source inner see.sink plan old made from to = record { asked = is; input = opens_in; output = opens_out } in
         let F : InputPart S → Type 0 = λ p. new ≡ closed_desk inner see.sink made p made_to failed in
         let T : OutputPart K → Type 0 = λ p. new ≡ closed_desk inner see.sink made from p failed in

@@ -8,8 +8,7 @@ use Rattle.chain_model.specs.Reports.{rules_of}
 use Rattle.plugin_trait.specs.declared.heard.Heard.{Heard}
 use Rattle.plugin_trait.specs.HeardStands.{HeardStands}
 use Rattle.chain_run.specs.Fresh.{AreFresh}
-use Rattle.plugin_set.specs.Items.{rule_of_item}
-use Rattle.plugin_set.specs.Plugins.{preallocated_of}
+use Rattle.plugin_set.specs.Items.{preallocated_of_item, rule_of_item}
 use Rattle.plugin_set.specs.declared.plugin_item.PluginItem.{PluginItem}
 use Rattle.tsp_top.specs.PlannedChain.{first_table, later_tables, named_rules}
 use Rattle.tsp_top.proofs.CallLemmas.{fresh_push}
@@ -66,12 +65,12 @@ rules_after rule plugins more all items rest item tables later table split first
 
 pub rooms_after : {P : Type 0} (preallocated : P → Option ℕ) (buffer : ℕ) (plugins more all : List P) (items rest : List PluginItem) (item : PluginItem)
     → items ≡ item ∷ rest
-    → map preallocated more ≡ map preallocated plugins ++ preallocated_of item.conf buffer ∷ []
-    → map preallocated all ≡ map preallocated more ++ map (λ i. preallocated_of i.conf buffer) rest
-    → map preallocated all ≡ map preallocated plugins ++ map (λ i. preallocated_of i.conf buffer) items
+    → map preallocated more ≡ map preallocated plugins ++ preallocated_of_item item buffer ∷ []
+    → map preallocated all ≡ map preallocated more ++ map (λ i. preallocated_of_item i buffer) rest
+    → map preallocated all ≡ map preallocated plugins ++ map (λ i. preallocated_of_item i buffer) items
 rooms_after preallocated buffer plugins more all items rest item split one those =
     let own : List (Option ℕ) = map preallocated plugins in
-    let room : PluginItem → Option ℕ = λ i. preallocated_of i.conf buffer in
+    let room : PluginItem → Option ℕ = λ i. preallocated_of_item i buffer in
     those
     ∙ ap (λ (l : List (Option ℕ)). l ++ map room rest) one
     ∙ append_assoc own (room item ∷ []) (map room rest)

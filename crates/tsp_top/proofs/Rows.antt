@@ -6,12 +6,13 @@ use Rattle.chain_model.specs.Reports.{NamedRule, reports}
 use Rattle.chain_model.specs.declared.input_end.InputEnd.TheVariants as input
 use Rattle.chain_model.specs.declared.cause.Cause.{Cause}
 use Rattle.chain_model.specs.declared.cause.Cause.TheVariants as cause
+use Rattle.packet_forms.specs.declared.forms.Form.TheVariants.{Ts}
 use Rattle.chain_args.specs.declared.general_conf.GeneralConf.{GeneralConf}
 use Rattle.chain_args.specs.declared.stage_threads.StageThreads.TheVariants.{Auto}
 use Rattle.tsp_top.specs.CallOutcome.{run_status, status_of}
 use Rattle.chain_model.specs.PureRun.{Chain, reported_at}
 use Rattle.chain_live.specs.LiveReports.{LiveLine, live_reported}
-use Rattle.tsp_top.specs.Printed.{live_text, printed_line, reported_as, reports_asked}
+use Rattle.tsp_top.specs.Printed.{gap_printed, live_text, printed_line, reported_as, reports_asked}
 use Rattle.tsp_top.specs.Sizes.{lesser_batch}
 use Rattle.tsp_top.specs.declared.status.Status.TheVariants.{Done, WriteFault, Sync, InputEnded, FaultFound}
 
@@ -93,11 +94,24 @@ unfolding digits
 whole-line = refl
 
 -- without `--live` the report is that of the plugins one after another, with it the live one
-after-the-run : (chain : Chain) (cut : ℕ) (why : Cause) → reported_as (asked false false false) chain cut why ≡ reported_at chain cut why
+after-the-run : (chain : Chain) (cut : ℕ) (why : Cause) → reported_as (asked false false false) None chain cut why ≡ reported_at chain cut why
 after-the-run chain cut why = refl
 
-while-it-goes : (chain : Chain) (cut : ℕ) (why : Cause) → reported_as (record (asked false false false) { live = true }) chain cut why ≡ live_reported chain cut why
+while-it-goes : (chain : Chain) (cut : ℕ) (why : Cause) → reported_as (record (asked false false false) { live = true }) None chain cut why ≡ live_reported chain cut why
 while-it-goes chain cut why = refl
+
+-- a unit with a bad sync byte before the packet 2, and seven bytes before the packet 6, which is at position 9 where a null packet
+-- is put after every two
+bad-sync-byte : gap_printed false (record { start = 0; stop = 0; null = 1; every = 2 }) 9 Ts (record { before = 2; bytes = 188 }) ≡ codes "[0] file: bad sync byte before packet 2" ++ 10 ∷ []
+unfolding digits
+bad-sync-byte = refl
+
+before-the-cut : gap_printed true (record { start = 0; stop = 0; null = 1; every = 2 }) 10 Ts (record { before = 6; bytes = 7 }) ≡ codes "7 bytes left out before packet 6" ++ 10 ∷ []
+unfolding digits
+before-the-cut = refl
+
+behind-the-cut : gap_printed true (record { start = 0; stop = 0; null = 1; every = 2 }) 9 Ts (record { before = 6; bytes = 7 }) ≡ []
+behind-the-cut = refl
 
 -- two bare lines of one round
 abbrev line : ℕ → ℕ → LiveLine

@@ -39,13 +39,13 @@ pub on-err : {A B : Type 0} (r : Result A B) (x : B) (P : Type 0) → r ≡ Err 
 on-err {A} {B} r x P e h = let M : Result A B → Type 0 = λ s. OnErr s P in subst M e h
 
 -- the same report, in other words
-pub reports-run-same : (general : GeneralConf) (text said : List ℕ) (faulty known : Bool) (why : Cause) (f failed : Bool) (a old new : DeskView) (status : Status)
-    → text ≡ said → faulty ≡ known → f ≡ failed → a ≡ old → ReportsRun general text faulty why f a new status → ReportsRun general said known why failed old new status
-reports-run-same general text said faulty known why f failed a old new status e1 e2 e3 e4 h =
-    let A : List ℕ → Type 0 = λ t. ReportsRun general t faulty why f a new status in
-    let B : Bool → Type 0 = λ b. ReportsRun general said b why f a new status in
-    let C : Bool → Type 0 = λ b. ReportsRun general said known why b a new status in
-    let D : DeskView → Type 0 = λ d. ReportsRun general said known why failed d new status in
+pub reports-run-same : (general : GeneralConf) (text said : List ℕ) (faulty known : Bool) (K : Type 0) (why : Cause) (f failed : Bool) (a old new : DeskView) (status : Status)
+    → text ≡ said → faulty ≡ known → f ≡ failed → a ≡ old → ReportsRun general text faulty K why f a new status → ReportsRun general said known K why failed old new status
+reports-run-same general text said faulty known K why f failed a old new status e1 e2 e3 e4 h =
+    let A : List ℕ → Type 0 = λ t. ReportsRun general t faulty K why f a new status in
+    let B : Bool → Type 0 = λ b. ReportsRun general said b K why f a new status in
+    let C : Bool → Type 0 = λ b. ReportsRun general said known K why b a new status in
+    let D : DeskView → Type 0 = λ d. ReportsRun general said known K why failed d new status in
     subst D e4 (subst C e3 (subst B e2 (subst A e1 h)))
 
 -- the plugins of a closed run met the cells before its cut, as plugins of their own rules

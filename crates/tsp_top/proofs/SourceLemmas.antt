@@ -1,5 +1,5 @@
 -- What was read of an input that was opened and closed.
-use Rattle.std.proofs.Common.{◌≡◌, ◌⊎◌, ◌≤◌, ℕ, List, [], ◌∷◌, ◌++◌, Option, None, Some, IfSome, Bool, false, if◌then◌else◌, nat_lt, refl, ap, sym, ◌∙◌, subst, inl, inr, length, arith}
+use Rattle.std.proofs.Common.{◌≡◌, ◌⊎◌, ◌≤◌, ◌<◌, ◌*◌, ◌^◌, ℕ, List, [], ◌∷◌, ◌++◌, Option, None, Some, IfSome, Bool, true, false, if◌then◌else◌, nat_lt, refl, ap, sym, ◌∙◌, subst, inl, inr, length, arith}
 use Rattle.std.specs.Prelude.{IsSome, unwrap_or}
 use Rattle.std.specs.Option.{option_map}
 use Rattle.std.proofs.lemmas.Slice.Eq.{bytes_eq-Decides}
@@ -11,6 +11,7 @@ use Rattle.chain_model.specs.declared.cause.Cause.{Cause}
 use Rattle.chain_model.specs.declared.cause.Cause.TheVariants.{Input}
 use Rattle.chain_model.specs.Apply.{StageList}
 use Rattle.chain_model.specs.InputList.{input_of_bytes, input_of_nulls}
+use Rattle.chain_model.specs.Prefix.{IsPrefix}
 use Rattle.chain_model.specs.Stuffed.{stuffed}
 use Rattle.chain_model.specs.Stuffed as model
 use Rattle.stage_run.specs.declared.input_part.InputPart.{InputPart}
@@ -24,50 +25,72 @@ use Rattle.chain_run.specs.SourceRead.{CutsAtFault, ReadsSource}
 use Rattle.packet_forms.specs.declared.forms.Form.{Form}
 use Rattle.packet_forms.specs.Stripped.{unit, stripped, stripped_from}
 use Rattle.packet_forms.proofs.Strips.{some-raw}
-use Rattle.packet_forms.specs.FormView.{form_view, ReadsThrough}
+use Rattle.packet_forms.specs.declared.forms.Form.TheVariants.{Ts, M2ts, Rs204}
+use Rattle.packet_forms.specs.FormView.{form_view, came, ReadsThrough}
+use Rattle.search_source.specs.Coming.{Coming, ungiven, coming_from, found_in}
+use Rattle.search_source.specs.Kept.{KeptTo}
+use Rattle.search_source.proofs.Kept.{gaps-to}
+use Rattle.search_source.proofs.Through.{same-units}
+use Rattle.search_source.specs.SearchView.{SearchView, plain, FoundThrough}
+use Rattle.search_source.specs.FileView.{EndsAs}
+use Rattle.search_source.specs.declared.file_source.KeptGaps.{KeptGaps}
 use Rattle.packet_forms.proofs.Through.{ReadOf, read-of, same-origin}
 use Rattle.ts_outside.specs.Count.{raised, HasCause}
-use Rattle.ts_outside.specs.Told.{before}
+use Rattle.ts_outside.specs.Told.{before, told_length}
 use Rattle.ts_outside.specs.Source.{SourceView, Origin, own_bytes, unread, read_failed}
 use Rattle.ts_outside.specs.Desk.{DeskView, with_input, file_of, content}
 use Rattle.ts_outside.specs.declared.closed_inputs.ClosedInput.{ClosedInput}
 use Rattle.ts_outside.proofs.Views.{HasCause-raised}
 use Rattle.ts_outside.specs.Entries.{closed_with}
-use Rattle.tsp_top.specs.PlannedChain.{stuffing_of, input_of, input_name}
+use Rattle.tsp_top.specs.PlannedChain.{GivenInput, all_of, stuffing_of, bytes_of_packets, given_of, left_out_of, input_of, GivesFile, GivesInput, input_name}
+use Rattle.tsp_top.specs.LeftOut.{LeftOut}
+use Rattle.tsp_top.proofs.GapLemmas.{SameSaid, nothing-said, same-said}
 use Rattle.tsp_top.specs.Sizes.{IsSize, most_buffer}
-use Rattle.tsp_top.specs.Openings.{OpensInput, IsThrough, input_closed_as}
-use Rattle.tsp_top.specs.Readings.{ReadsNothing, CutsAtRead, ReadsFile, ReadsTo}
+use Rattle.tsp_top.specs.Openings.{OpensInput, packets_view, IsThrough, input_closed_as}
+use Rattle.tsp_top.specs.Readings.{ReadsNothing, CutsAtRead, AreTaken, ReadsFile, ReadsTo}
 
 -- where the bytes of a file's packets are from
 abbrev origin_of : Form → Option (List ℕ) → Origin
 origin_of form bytes = record { unit = unit form; bytes = bytes }
+
+abbrev found_origin : Form → Option (List ℕ) → Origin
+found_origin form bytes = record { unit = 6 * unit form; bytes = bytes }
+
+-- a source of packets has the faults of the file's own, before it is read and at the end
+view-faults : (resync : Bool) (form : Form) (own : SourceView) → (packets_view resync form own).faults ≡ own.faults
+view-faults false form own = refl
+view-faults true form own = refl
+
+ends-faults : (outer inner : SourceView) (kept : Option KeptGaps) → EndsAs outer inner kept → outer.faults ≡ inner.faults
+ends-faults outer inner None ends = ends.faults
+ends-faults outer inner (Some kept) ends = ap (λ (s : SourceView). s.faults) ends.1 ∙ ends.3.kept.through.faults
 
 -- a source whose read failed counts one fault
 one-fault : (old new : SourceView) (read : List ℕ) → old.faults ≡ 0 → read_failed old ≡ unread read new → new.faults ≡ 1
 one-fault old new read none is = sym (ap (λ (s : SourceView). s.faults) is) ∙ ap raised none
 
 -- a read that failed and ended the run is counted at the closing
-pub read_fault-counted : {S : Type 0} (seen inner : S → SourceView) (d made : DeskView) (conf : InputConf) (old new : InputPart S) (stuffing : model.Stuffing) (buffer cut : ℕ) (why : Cause)
-    → OpensInput seen inner d conf old → IsThrough seen inner new → LeftInput seen stuffing buffer old new cut why → why ≡ Input ReadFault
+pub read_fault-counted : {S : Type 0} (seen inner : S → SourceView) (d made : DeskView) (conf : InputConf) (old new : InputPart S) (kept : Option KeptGaps) (stuffing : model.Stuffing) (buffer cut : ℕ) (why : Cause)
+    → OpensInput seen inner d conf old → IsThrough seen inner new kept → LeftInput seen stuffing buffer old new cut why → why ≡ Input ReadFault
     → HasCause made.read_faults (input_closed_as inner made new).read_faults
-read_fault-counted seen inner d made (input.File name form) (Stream first) (Stream now) stuffing buffer cut why opens through left is =
-    let none : (seen first).faults ≡ 0 = ap (λ (s : SourceView). s.faults) opens.1 ∙ ap (λ (s : SourceView). s.faults) opens.0 in
-    let one : (inner now).faults ≡ 1 = sym through.faults ∙ one-fault (seen first) (seen now) left.read none (left.at_fault is).failed in
+read_fault-counted seen inner d made (input.File name form resync) (Stream first) (Stream now) kept stuffing buffer cut why opens through left is =
+    let none : (seen first).faults ≡ 0 = ap (λ (s : SourceView). s.faults) opens.1 ∙ view-faults resync form (inner first) ∙ ap (λ (s : SourceView). s.faults) opens.0 in
+    let one : (inner now).faults ≡ 1 = sym (ends-faults (seen now) (inner now) kept through) ∙ one-fault (seen first) (seen now) left.read none (left.at_fault is).failed in
     rw one (HasCause-raised made.read_faults)
-read_fault-counted seen inner d made (input.Null count) (Nulls old) (Nulls new) stuffing buffer cut why opens through left is = absurd (left is)
-read_fault-counted seen inner d made (input.File name form) (Nulls old) new stuffing buffer cut why opens through left is = absurd opens
-read_fault-counted seen inner d made (input.File name form) (Stream first) (Nulls new) stuffing buffer cut why opens through left is = absurd left
-read_fault-counted seen inner d made (input.Null count) (Stream first) new stuffing buffer cut why opens through left is = absurd opens
-read_fault-counted seen inner d made (input.Null count) (Nulls old) (Stream now) stuffing buffer cut why opens through left is = absurd left
-read_fault-counted seen inner d made (input.File name form) (Generated old packets) new stuffing buffer cut why opens through left is = absurd opens
-read_fault-counted seen inner d made (input.File name form) (Stream first) (Generated new packets) stuffing buffer cut why opens through left is = absurd left
-read_fault-counted seen inner d made (input.Null count) (Generated old packets) new stuffing buffer cut why opens through left is = absurd opens
-read_fault-counted seen inner d made (input.Null count) (Nulls old) (Generated new packets) stuffing buffer cut why opens through left is = absurd left
-read_fault-counted seen inner d made (input.TestGen seed count) (Stream first) new stuffing buffer cut why opens through left is = absurd opens
-read_fault-counted seen inner d made (input.TestGen seed count) (Nulls old) new stuffing buffer cut why opens through left is = absurd opens
-read_fault-counted seen inner d made (input.TestGen seed count) (Generated old packets) (Stream now) stuffing buffer cut why opens through left is = absurd left
-read_fault-counted seen inner d made (input.TestGen seed count) (Generated old packets) (Nulls now) stuffing buffer cut why opens through left is = absurd left
-read_fault-counted seen inner d made (input.TestGen seed count) (Generated old packets) (Generated new same) stuffing buffer cut why opens through left is = absurd (left is)
+read_fault-counted seen inner d made (input.Null count) (Nulls old) (Nulls new) kept stuffing buffer cut why opens through left is = absurd (left is)
+read_fault-counted seen inner d made (input.File name form resync) (Nulls old) new kept stuffing buffer cut why opens through left is = absurd opens
+read_fault-counted seen inner d made (input.File name form resync) (Stream first) (Nulls new) kept stuffing buffer cut why opens through left is = absurd left
+read_fault-counted seen inner d made (input.Null count) (Stream first) new kept stuffing buffer cut why opens through left is = absurd opens
+read_fault-counted seen inner d made (input.Null count) (Nulls old) (Stream now) kept stuffing buffer cut why opens through left is = absurd left
+read_fault-counted seen inner d made (input.File name form resync) (Generated old packets) new kept stuffing buffer cut why opens through left is = absurd opens
+read_fault-counted seen inner d made (input.File name form resync) (Stream first) (Generated new packets) kept stuffing buffer cut why opens through left is = absurd left
+read_fault-counted seen inner d made (input.Null count) (Generated old packets) new kept stuffing buffer cut why opens through left is = absurd opens
+read_fault-counted seen inner d made (input.Null count) (Nulls old) (Generated new packets) kept stuffing buffer cut why opens through left is = absurd left
+read_fault-counted seen inner d made (input.TestGen seed count) (Stream first) new kept stuffing buffer cut why opens through left is = absurd opens
+read_fault-counted seen inner d made (input.TestGen seed count) (Nulls old) new kept stuffing buffer cut why opens through left is = absurd opens
+read_fault-counted seen inner d made (input.TestGen seed count) (Generated old packets) (Stream now) kept stuffing buffer cut why opens through left is = absurd left
+read_fault-counted seen inner d made (input.TestGen seed count) (Generated old packets) (Nulls now) kept stuffing buffer cut why opens through left is = absurd left
+read_fault-counted seen inner d made (input.TestGen seed count) (Generated old packets) (Generated new same) kept stuffing buffer cut why opens through left is = absurd (left is)
 
 -- these bytes are left to a source, where the files are known
 abbrev LeftTold : Option (List (List ℕ × List ℕ)) → SourceView → List ℕ → Type 0
@@ -88,20 +111,31 @@ opens-left s d files name same opens = opened-left d.files files name s same (ap
 file-of-first : (name bytes : List ℕ) → file_of ((name, bytes) ∷ []) name ≡ bytes
 file-of-first name bytes = ap (λ (b : Bool). if b then bytes else []) ((bytes_eq-Decides name name).1 refl)
 
--- the files of a run: those that are known, and where none are, some that have the bytes of its input
-pub record FilesOf (d : DeskView) (conf : InputConf) (s : model.Stuffing) (list : StageList) : Type 0 where
+-- the files of a run: those that are known, and where none are, some that have the bytes of its input; what its input gives
+-- over them; and what is said of what is left out, by the gaps that were kept
+pub record FilesOf (d : DeskView) (conf : InputConf) (s : model.Stuffing) (list : StageList) (kept : Option KeptGaps) : Type 0 where
   pub files : List (List ℕ × List ℕ)
   pub files_are : IfSome d.files (λ told. files ≡ told)
-  pub list_is : list ≡ stuffed s (input_of conf files)
+  pub given : GivenInput
+  pub given_is : GivesInput conf d.files files given
+  pub list_is : list ≡ stuffed s given.list
+  pub said : SameSaid s kept given.left_out
 
-files-of-bytes : (told : Option (List (List ℕ × List ℕ))) (name : List ℕ) (form : Form) (own left : Option (List ℕ)) (bytes : List ℕ)
-    → own ≡ option_map (λ fs. file_of fs name) told → left ≡ option_map (stripped form) own → IfSome left (λ l. l ≡ bytes)
-    → (files : List (List ℕ × List ℕ)) × IfSome told (λ t. files ≡ t) × (stripped form (file_of files name) ≡ bytes)
-files-of-bytes None name form own left bytes e through is =
-    let raw = some-raw form 0 bytes in
-    ((name, raw.0) ∷ [], tt, ap (stripped form) (file-of-first name raw.0) ∙ raw.1)
-files-of-bytes (Some t) name form own left bytes e through is =
-    (t, refl, subst (λ (o : Option (List ℕ)). IfSome o (λ l. l ≡ bytes)) (through ∙ ap (option_map (stripped form)) e) is)
+-- the bytes of packets that are left to a source that was opened
+view-left : (resync : Bool) (form : Form) (own : SourceView) → (packets_view resync form own).left ≡ option_map (bytes_of_packets resync form) own.left
+view-left false form own = refl
+view-left true form own = refl
+
+-- an input gives that of the files
+gives-known : (resync : Bool) (told : Option (List (List ℕ × List ℕ))) (form : Form) (file : List ℕ) → GivesFile resync told (given_of resync form file) (given_of resync form file)
+gives-known true None form file = (bytes_of_packets true form file, record { form = form; gaps = (found_in form file).gaps; behind = (found_in form file).behind }, refl)
+gives-known true (Some t) form file = refl
+gives-known false told form file = refl
+
+pub some-input : (conf : InputConf) (told : Option (List (List ℕ × List ℕ))) (files : List (List ℕ × List ℕ)) → (given : GivenInput) × GivesInput conf told files given
+some-input (input.File name form resync) told files = (input_of (input.File name form resync) files, gives-known resync told form (file_of files name))
+some-input (input.Null count) told files = (input_of (input.Null count) files, refl)
+some-input (input.TestGen seed count) told files = (input_of (input.TestGen seed count) files, refl)
 
 files-of-nulls : (told : Option (List (List ℕ × List ℕ))) → (files : List (List ℕ × List ℕ)) × IfSome told (λ t. files ≡ t)
 files-of-nulls None = ([], tt)
@@ -111,40 +145,144 @@ files-of-nulls (Some t) = (t, refl)
 pub some-files : (d : DeskView) → (files : List (List ℕ × List ℕ)) × IfSome d.files (λ t. files ≡ t)
 some-files d = files-of-nulls d.files
 
--- the list of an input that was opened is that of the plan, over some files
-pub opened-list : {S : Type 0} (seen inner : S → SourceView) (d : DeskView) (conf : InputConf) (part : InputPart S) (s : model.Stuffing) (list : StageList)
-    → OpensInput seen inner d conf part → IsListOf seen part s list → FilesOf d conf s list
-opened-list seen inner d (input.File name form) (Stream source) s list opens is =
-    let chosen = files-of-bytes d.files name form (inner source).left (seen source).left is.0 (ap (λ (v : SourceView). v.left) opens.0) (ap (λ (v : SourceView). v.left) opens.1) is.2 in
+-- the units of packets at their places, and the six of those that are found again, tell the one from the other
+unit-within : (form : Form) → (188 ≤ unit form) × (unit form ≤ 204)
+unit-within Ts = (omega arith, omega arith)
+unit-within M2ts = (omega arith, omega arith)
+unit-within Rs204 = (omega arith, omega arith)
+
+six-units : (form other : Form) → unit form ≡ 6 * unit other → ⊥
+six-units form other same =
+    let few = (unit-within form).1 in
+    let many = (unit-within other).0 in
+    absurd (omega arith)
+
+-- what was taken of a file, and its bytes are these
+record GivenOf (told : Option (List (List ℕ × List ℕ))) (name : List ℕ) (form : Form) (resync : Bool) (s : model.Stuffing) (bytes : List ℕ) (kept : Option KeptGaps) : Type 0 where
+  files : List (List ℕ × List ℕ)
+  files_are : IfSome told (λ t. files ≡ t)
+  left_out : Option LeftOut
+  gives : GivesFile resync told (given_of resync form (file_of files name)) (record { list = input_of_bytes bytes; left_out = left_out })
+  said : SameSaid s kept left_out
+
+-- what is told of a file that was opened
+told-bytes : (next : List ℕ → List ℕ) (own old : Option (List ℕ)) (file bytes : List ℕ) → own ≡ Some file → old ≡ option_map next own → IfSome old (λ l. l ≡ bytes) → next file ≡ bytes
+told-bytes next own old file bytes e through is = subst (λ (o : Option (List ℕ)). IfSome o (λ l. l ≡ bytes)) (through ∙ ap (option_map next) e) is
+
+given-of-file : (told : Option (List (List ℕ × List ℕ))) (name : List ℕ) (form : Form) (resync : Bool) (s : model.Stuffing) (own old new last : SourceView) (bytes : List ℕ) (kept : Option KeptGaps) → 1 ≤ s.every
+    → own.left ≡ option_map (λ fs. file_of fs name) told → told_length own.left < 2 ^ 63 → old ≡ packets_view resync form own → old.origin ≡ new.origin → EndsAs new last kept
+    → IfSome old.left (λ l. l ≡ bytes) → GivenOf told name form resync s bytes kept
+given-of-file told name form false s own old new last bytes (Some kept) some e small takes same ends is =
+    absurd (six-units form kept.form (sym (ap (λ (v : SourceView). v.origin.unit) takes) ∙ ap (λ (o : Origin). o.unit) same ∙ ends.2))
+given-of-file told name form true s own old new last bytes None some e small takes same ends is =
+    absurd (six-units ends.form form (sym ends.unit_is ∙ ap (λ (o : Origin). o.unit) (sym same) ∙ ap (λ (v : SourceView). v.origin.unit) takes))
+given-of-file None name form false s own old new last bytes None some e small takes same ends is =
+    let raw = some-raw form 0 bytes in
     record {
-      files = chosen.0;
-      files_are = chosen.1;
-      list_is = is.1 ∙ ap (λ (bytes : List ℕ). stuffed s (input_of_bytes bytes)) (sym chosen.2);
+      files = (name, raw.0) ∷ [];
+      files_are = tt;
+      left_out = None;
+      gives = ap (λ (l : List ℕ). let g : GivenInput = record { list = input_of_bytes l; left_out = None } in g) (sym (ap (stripped form) (file-of-first name raw.0) ∙ raw.1));
+      said = nothing-said s None refl;
     }
-opened-list seen inner d (input.Null count) (Nulls packets) s list opens is =
-    let chosen = files-of-nulls d.files in
-    record { files = chosen.0; files_are = chosen.1; list_is = is ∙ ap (λ n. stuffed s (input_of_nulls n)) opens }
-opened-list seen inner d (input.File name form) (Nulls packets) s list opens is = absurd opens
-opened-list seen inner d (input.Null count) (Stream source) s list opens is = absurd opens
-opened-list seen inner d (input.File name form) (Generated generator packets) s list opens is = absurd opens
-opened-list seen inner d (input.Null count) (Generated generator packets) s list opens is = absurd opens
-opened-list seen inner d (input.TestGen seed count) (Stream source) s list opens is = absurd opens
-opened-list seen inner d (input.TestGen seed count) (Nulls packets) s list opens is = absurd opens
-opened-list seen inner d (input.TestGen seed count) (Generated generator packets) s list opens is =
+given-of-file (Some t) name form false s own old new last bytes None some e small takes same ends is =
+    record {
+      files = t;
+      files_are = refl;
+      left_out = None;
+      gives = ap (λ (l : List ℕ). let g : GivenInput = record { list = input_of_bytes l; left_out = None } in g)
+          (sym (told-bytes (bytes_of_packets false form) own.left old.left (file_of t name) bytes e (ap (λ (v : SourceView). v.left) takes ∙ view-left false form own) is));
+      said = nothing-said s None refl;
+    }
+given-of-file None name form true s own old new last bytes (Some kept) some e small takes same ends is =
+    let out : LeftOut = record { form = kept.form; gaps = kept.gaps.items; behind = kept.behind } in
+    record {
+      files = [];
+      files_are = tt;
+      left_out = Some out;
+      gives = (bytes, out, refl);
+      said = λ bare m why all. (refl, refl);
+    }
+given-of-file (Some t) name form true s own old new last bytes (Some kept) some e small takes same ends is =
+    let file : List ℕ = file_of t name in
+    let from : new.origin ≡ found_origin form (Some file) = sym same ∙ ap (λ (v : SourceView). v.origin) takes ∙ ap (found_origin form) e in
+    let seen : ends.0.origin ≡ found_origin form (Some file) = ap (λ (v : SourceView). v.origin) (sym ends.1) ∙ from in
+    let form_is : kept.form ≡ form = sym (same-units form kept.form (sym (ap (λ (o : Origin). o.unit) from) ∙ ends.2)) in
+    let short : length file < 2 ^ 63 = subst (λ (o : Option (List ℕ)). told_length o < 2 ^ 63) e small in
+    record {
+      files = t;
+      files_are = refl;
+      left_out = left_out_of true form file;
+      gives = ap (λ (l : List ℕ). let g : GivenInput = record { list = input_of_bytes l; left_out = left_out_of true form file } in g)
+          (sym (told-bytes (bytes_of_packets true form) own.left old.left file bytes e (ap (λ (v : SourceView). v.left) takes ∙ view-left true form own) is));
+      said = same-said s form file kept some form_is
+          (λ lost. gaps-to form file kept.gaps.items kept.number kept.behind kept.over ends.0 last seen short
+          (subst (λ (b : Bool). KeptTo ends.0 last b kept.gaps.items kept.number kept.behind kept.over) lost ends.3));
+    }
+
+-- of an input that is no file no gaps are kept
+nulls-kept : {S : Type 0} (seen inner : S → SourceView) (s : model.Stuffing) (buffer packets cut : ℕ) (why : Cause) (new : InputPart S) (kept : Option KeptGaps) → IsThrough seen inner new kept
+    → LeftInput seen s buffer (Nulls packets) new cut why → kept ≡ None
+nulls-kept seen inner s buffer packets cut why (Nulls now) kept through left = through
+nulls-kept seen inner s buffer packets cut why (Stream now) kept through left = absurd left
+nulls-kept seen inner s buffer packets cut why (Generated now many) kept through left = absurd left
+
+generated-kept : {S : Type 0} (seen inner : S → SourceView) (s : model.Stuffing) (buffer packets cut : ℕ) (generator : Generator) (why : Cause) (new : InputPart S) (kept : Option KeptGaps) → IsThrough seen inner new kept
+    → LeftInput seen s buffer (Generated generator packets) new cut why → kept ≡ None
+generated-kept seen inner s buffer packets cut generator why (Generated now many) kept through left = through
+generated-kept seen inner s buffer packets cut generator why (Stream now) kept through left = absurd left
+generated-kept seen inner s buffer packets cut generator why (Nulls now) kept through left = absurd left
+
+-- the list of an input that was opened is that of the plan, over some files
+pub opened-list : {S : Type 0} (seen inner : S → SourceView) (d : DeskView) (conf : InputConf) (part new : InputPart S) (s : model.Stuffing) (list : StageList) (kept : Option KeptGaps) (buffer cut : ℕ) (why : Cause)
+    → 1 ≤ s.every → OpensInput seen inner d conf part → IsListOf seen part s list → IsThrough seen inner new kept → LeftInput seen s buffer part new cut why → FilesOf d conf s list kept
+opened-list seen inner d (input.File name form resync) (Stream source) (Stream now) s list kept buffer cut why some opens is through left =
+    let chosen = given-of-file d.files name form resync s (inner source) (seen source) (seen now) (inner now) is.0 kept some
+    (ap (λ (v : SourceView). v.left) opens.0) opens.2 opens.1 (same-origin (seen source) (seen now) left.read left.source).1 through is.2 in
+    record {
+      files = chosen.files;
+      files_are = chosen.files_are;
+      given = record { list = input_of_bytes is.0; left_out = chosen.left_out };
+      given_is = chosen.gives;
+      list_is = is.1;
+      said = chosen.said;
+    }
+opened-list seen inner d (input.File name form resync) (Stream source) (Nulls now) s list kept buffer cut why some opens is through left = absurd left
+opened-list seen inner d (input.File name form resync) (Stream source) (Generated now many) s list kept buffer cut why some opens is through left = absurd left
+opened-list seen inner d (input.Null count) (Nulls packets) new s list kept buffer cut why some opens is through left =
     let chosen = files-of-nulls d.files in
     record {
       files = chosen.0;
       files_are = chosen.1;
+      given = all_of (input_of_nulls count);
+      given_is = refl;
+      list_is = is ∙ ap (λ n. stuffed s (input_of_nulls n)) opens;
+      said = nothing-said s kept (nulls-kept seen inner s buffer packets cut why new kept through left);
+    }
+opened-list seen inner d (input.File name form resync) (Nulls packets) new s list kept buffer cut why some opens is through left = absurd opens
+opened-list seen inner d (input.Null count) (Stream source) new s list kept buffer cut why some opens is through left = absurd opens
+opened-list seen inner d (input.File name form resync) (Generated generator packets) new s list kept buffer cut why some opens is through left = absurd opens
+opened-list seen inner d (input.Null count) (Generated generator packets) new s list kept buffer cut why some opens is through left = absurd opens
+opened-list seen inner d (input.TestGen seed count) (Stream source) new s list kept buffer cut why some opens is through left = absurd opens
+opened-list seen inner d (input.TestGen seed count) (Nulls packets) new s list kept buffer cut why some opens is through left = absurd opens
+opened-list seen inner d (input.TestGen seed count) (Generated generator packets) new s list kept buffer cut why some opens is through left =
+    let chosen = files-of-nulls d.files in
+    record {
+      files = chosen.0;
+      files_are = chosen.1;
+      given = all_of (input_of_generated seed count);
+      given_is = refl;
       list_is = is
           ∙ ap (λ (n : ℕ). stuffed s (input_of_generated generator.seed n)) opens.1
           ∙ ap (λ (g : Generator). stuffed s (input_of_generated g.seed count)) opens.0;
+      said = nothing-said s kept (generated-kept seen inner s buffer packets cut generator why new kept through left);
     }
 
 -- an input that was opened is unused
 pub opened-unused : {S : Type 0} (seen inner : S → SourceView) (d : DeskView) (conf : InputConf) (part : InputPart S) → OpensInput seen inner d conf part → IsUnused part
 opened-unused seen inner d conf (Stream source) opens = tt
 opened-unused seen inner d conf (Nulls packets) opens = tt
-opened-unused seen inner d (input.File name form) (Generated generator packets) opens = absurd opens
+opened-unused seen inner d (input.File name form resync) (Generated generator packets) opens = absurd opens
 opened-unused seen inner d (input.Null count) (Generated generator packets) opens = absurd opens
 opened-unused seen inner d (input.TestGen seed count) (Generated generator packets) opens = ap (λ (g : Generator). g.given) opens.0
 
@@ -159,49 +297,55 @@ with_input-is (Some t) (Some l) s left is = rw is refl
 -- an input that was opened and closed at once
 pub reads-nothing : {S : Type 0} (seen inner : S → SourceView) (d made new : DeskView) (files : List (List ℕ × List ℕ)) (conf : InputConf) (part : InputPart S)
     → IfSome d.files (λ t. files ≡ t) → OpensInput seen inner d conf part → made.closed_in ≡ d.closed_in → new.closed_in ≡ (input_closed_as inner made part).closed_in → ReadsNothing conf files d new
-reads-nothing seen inner d made new files (input.File name form) (Stream source) told opens same is =
+reads-nothing seen inner d made new files (input.File name form resync) (Stream source) told opens same is =
     let none : (inner source).faults ≡ 0 = ap (λ (s : SourceView). s.faults) opens.0 in
     let all : ℕ = length (file_of files name) in
     is ∙ with_input-is d.files made.closed_in (inner source) (file_of files name) (opens-left (inner source) d files name told opens.0)
     ∙ ap (λ (n : ℕ). closed_with d.files made.closed_in (record { left = all; failed = nat_lt 0 n })) none
     ∙ ap (λ (o : Option (List ClosedInput)). closed_with d.files o (record { left = all; failed = false })) same
 reads-nothing seen inner d made new files (input.Null count) (Nulls packets) told opens same is = is ∙ same
-reads-nothing seen inner d made new files (input.File name form) (Nulls packets) told opens same is = absurd opens
+reads-nothing seen inner d made new files (input.File name form resync) (Nulls packets) told opens same is = absurd opens
 reads-nothing seen inner d made new files (input.Null count) (Stream source) told opens same is = absurd opens
-reads-nothing seen inner d made new files (input.File name form) (Generated generator packets) told opens same is = absurd opens
+reads-nothing seen inner d made new files (input.File name form resync) (Generated generator packets) told opens same is = absurd opens
 reads-nothing seen inner d made new files (input.Null count) (Generated generator packets) told opens same is = absurd opens
 reads-nothing seen inner d made new files (input.TestGen seed count) (Stream source) told opens same is = absurd opens
 reads-nothing seen inner d made new files (input.TestGen seed count) (Nulls packets) told opens same is = absurd opens
 reads-nothing seen inner d made new files (input.TestGen seed count) (Generated generator packets) told opens same is = is ∙ same
 
 -- what was read of a file whose packets gave these bytes: the file's own, as far as it is known
-record OwnRead (told : Option (List (List ℕ × List ℕ))) (form : Form) (file given : List ℕ) (last : SourceView) : Type 0 where
+record OwnRead (told : Option (List (List ℕ × List ℕ))) (form : Form) (resync : Bool) (file given : List ℕ) (last : SourceView) : Type 0 where
   read : List ℕ
   rest : List ℕ
   bytes : IfSome told (λ t. file ≡ read ++ rest)
   left : LeftTold told last rest
-  given_is : stripped form read ≡ given
+  taken : AreTaken resync form told file read given
 
 -- where the bytes left to a source are not known, they are not known after a read
-untold-left : (form : Form) (at : ℕ) (given : List ℕ) (new last : Option (List ℕ)) → None ≡ before given new → new ≡ option_map (stripped_from form at) last → last ≡ None
-untold-left form at given new None none is = refl
-untold-left form at given new (Some rest) none is =
-    let no : None ≡ before given (Some (stripped_from form at rest)) = none ∙ ap (before given) is in
+untold-left : (given : List ℕ) (next : List ℕ → List ℕ) (new last : Option (List ℕ)) → None ≡ before given new → new ≡ option_map next last → last ≡ None
+untold-left given next new None none is = refl
+untold-left given next new (Some rest) none is =
+    let no : None ≡ before given (Some (next rest)) = none ∙ ap (before given) is in
     absurd cc
 
-own-read : (told : Option (List (List ℕ × List ℕ))) (form : Form) (file given : List ℕ) (first old new last : SourceView) → LeftTold told first file → old ≡ form_view form 0 first first
-    → (old ≡ unread given new) ⊎ (read_failed old ≡ unread given new) → ReadsThrough new last → OwnRead told form file given last
-own-read None form file given first old new last left takes moved through =
+-- one function after another
+map-twice : {A B : Type 0} (f : List ℕ → A) (g : A → B) (o : Option (List ℕ)) → option_map g (option_map f o) ≡ option_map (λ x. g (f x)) o
+map-twice f g None = refl
+map-twice f g (Some x) = refl
+
+-- the file was read through a source of packets at their places
+placed-read : (told : Option (List (List ℕ × List ℕ))) (form : Form) (file given : List ℕ) (first old new last : SourceView) → LeftTold told first file → old ≡ form_view form 0 first first
+    → (old ≡ unread given new) ⊎ (read_failed old ≡ unread given new) → ReadsThrough new last → OwnRead told form false file given last
+placed-read None form file given first old new last left takes moved through =
     let raw = some-raw form 0 given in
     let none : old.left ≡ None = ap (λ (s : SourceView). s.left) takes ∙ ap (option_map (stripped form)) left in
     record {
       read = raw.0;
       rest = [];
       bytes = tt;
-      left = untold-left through.form through.at given new.left last.left (sym none ∙ (same-origin old new given moved).0) through.left;
-      given_is = raw.1;
+      left = untold-left given (stripped_from through.form through.at) new.left last.left (sym none ∙ (same-origin old new given moved).0) through.left;
+      taken = sym raw.1;
     }
-own-read (Some files) form file given first old new last left takes moved through =
+placed-read (Some files) form file given first old new last left takes moved through =
     let parts = same-origin old new given moved in
     let whole : old.left ≡ Some (stripped form file) = ap (λ (s : SourceView). s.left) takes ∙ ap (option_map (stripped form)) left in
     let from : old.origin ≡ record { unit = unit form; bytes = Some file } = ap (λ (s : SourceView). s.origin) takes ∙ ap (origin_of form) left in
@@ -211,8 +355,55 @@ own-read (Some files) form file given first old new last left takes moved throug
       rest = of_file.rest;
       bytes = of_file.file_is;
       left = of_file.left_is;
-      given_is = of_file.given_is;
+      taken = sym of_file.given_is;
     }
+
+-- a file of which so much is left, and the first of its packets, of which so many bytes are left
+file-parts : (file : List ℕ) (left : Option (List ℕ)) → Some file ≡ before (came (Some file) left) left → (read : List ℕ) × (rest : List ℕ) × (file ≡ read ++ rest) × (left ≡ Some rest)
+file-parts file None behind = absurd cc
+file-parts file (Some rest) behind = (came (Some file) (Some rest), rest, cc, refl)
+
+first-bytes : (all given : List ℕ) (left : Option (List ℕ)) → Some all ≡ before given left → IsPrefix given all
+first-bytes all given None is = absurd cc
+first-bytes all given (Some rest) is = (rest, cc)
+
+-- the file was read through a source of packets that are found again
+found-read : (told : Option (List (List ℕ × List ℕ))) (form : Form) (file given : List ℕ) (first old new last : SourceView) (view : SearchView) → LeftTold told first file → old ≡ packets_view true form first
+    → (old ≡ unread given new) ⊎ (read_failed old ≡ unread given new) → new ≡ plain view → FoundThrough view last → OwnRead told form true file given last
+found-read None form file given first old new last view left takes moved is through =
+    let none : old.left ≡ None = ap (λ (s : SourceView). s.left) takes ∙ ap (option_map (bytes_of_packets true form)) left in
+    let next : List ℕ → Coming = λ rest. ungiven [] through.noted (coming_from through.form through.due through.tail through.near through.left through.number (through.hand ++ rest)) in
+    record {
+      read = [];
+      rest = [];
+      bytes = tt;
+      left = untold-left given (λ rest. (next rest).bytes) new.left last.left (sym none ∙ (same-origin old new given moved).0)
+          (ap (λ (s : SourceView). s.left) is ∙ ap (option_map (λ (c : Coming). c.bytes)) through.coming ∙ map-twice next (λ (c : Coming). c.bytes) last.left);
+      taken = tt;
+    }
+found-read (Some files) form file given first old new last view left takes moved is through =
+    let parts = same-origin old new given moved in
+    let whole : old.left ≡ Some (bytes_of_packets true form file) = ap (λ (s : SourceView). s.left) takes ∙ ap (option_map (bytes_of_packets true form)) left in
+    let from : old.origin ≡ found_origin form (Some file) = ap (λ (s : SourceView). s.origin) takes ∙ ap (found_origin form) left in
+    let told : view.origin.bytes ≡ Some file = ap (λ (s : SourceView). s.origin.bytes) (sym is) ∙ ap (λ (o : Origin). o.bytes) (sym parts.1 ∙ from) in
+    let of_file = file-parts file last.left (subst (λ (all : Option (List ℕ)). all ≡ before (came all last.left) last.left) told through.behind) in
+    record {
+      read = of_file.0;
+      rest = of_file.1;
+      bytes = of_file.2;
+      left = of_file.3;
+      taken = first-bytes (bytes_of_packets true form file) given new.left (sym whole ∙ parts.0);
+    }
+
+-- whichever source it is, its units tell
+own-read : (told : Option (List (List ℕ × List ℕ))) (form : Form) (resync : Bool) (file given : List ℕ) (first old new last : SourceView) (kept : Option KeptGaps) → LeftTold told first file → old ≡ packets_view resync form first
+    → (old ≡ unread given new) ⊎ (read_failed old ≡ unread given new) → EndsAs new last kept → OwnRead told form resync file given last
+own-read told form false file given first old new last None left takes moved ends = placed-read told form file given first old new last left takes moved ends
+own-read told form true file given first old new last (Some kept) left takes moved ends = found-read told form file given first old new last ends.0 left takes moved ends.1 ends.3.kept.through
+own-read told form false file given first old new last (Some kept) left takes moved ends =
+    absurd (six-units form kept.form (sym (ap (λ (s : SourceView). s.origin.unit) takes) ∙ ap (λ (o : Origin). o.unit) (same-origin old new given moved).1 ∙ ends.2))
+own-read told form true file given first old new last None left takes moved ends =
+    absurd (six-units ends.form form (sym ends.unit_is ∙ ap (λ (o : Origin). o.unit) (sym (same-origin old new given moved).1) ∙ ap (λ (s : SourceView). s.origin.unit) takes))
 
 -- after a failed read
 read-fault : (general : GeneralConf) (old new : SourceView) (read : List ℕ) (stuffing : model.Stuffing) (cut : ℕ) → stuffing ≡ stuffing_of general → old.faults ≡ 0
@@ -236,13 +427,13 @@ size-within None default size is = is.1
 size-within (Some n) default size is = omega arith
 
 -- a file that a run read: `first` and `last` are its own source before and after the run, `old` and `new` that of its packets
-reads-file : (general : GeneralConf) (form : Form) (file : List ℕ) (d made next : DeskView) (first old new last : SourceView) (stuffing : model.Stuffing) (buffer cut : ℕ) (why : Cause)
-    → stuffing ≡ stuffing_of general → buffer ≤ most_buffer general → LeftTold d.files first file → first.faults ≡ 0 → old ≡ form_view form 0 first first
-    → ReadsThrough new last → made.closed_in ≡ d.closed_in → next.closed_in ≡ with_input made.closed_in last
-    → ReadsSource stuffing buffer old new cut why → ReadsFile general form file d next cut why
-reads-file general form file d made next first old new last stuffing buffer cut why stuffing_is buffer_within told none takes through same is run =
-    let own : OwnRead d.files form file run.read last = own-read d.files form file run.read first old new last told takes run.source through in
-    let fresh : old.faults ≡ 0 = ap (λ (s : SourceView). s.faults) takes ∙ none in
+reads-file : (general : GeneralConf) (form : Form) (resync : Bool) (kept : Option KeptGaps) (file : List ℕ) (d made next : DeskView) (first old new last : SourceView) (stuffing : model.Stuffing) (buffer cut : ℕ) (why : Cause)
+    → stuffing ≡ stuffing_of general → buffer ≤ most_buffer general → LeftTold d.files first file → first.faults ≡ 0 → old ≡ packets_view resync form first
+    → EndsAs new last kept → made.closed_in ≡ d.closed_in → next.closed_in ≡ with_input made.closed_in last
+    → ReadsSource stuffing buffer old new cut why → ReadsFile general form resync file d next cut why
+reads-file general form resync kept file d made next first old new last stuffing buffer cut why stuffing_is buffer_within told none takes through same is run =
+    let own : OwnRead d.files form resync file run.read last = own-read d.files form resync file run.read first old new last kept told takes run.source through in
+    let fresh : old.faults ≡ 0 = ap (λ (s : SourceView). s.faults) takes ∙ view-faults resync form first ∙ none in
     record {
       read = own.read;
       rest = own.rest;
@@ -250,39 +441,39 @@ reads-file general form file d made next first old new last stuffing buffer cut 
       bytes = own.bytes;
       closed = is ∙ with_input-is d.files made.closed_in last own.rest own.left
           ∙ ap (λ (o : Option (List ClosedInput)). closed_with d.files o (record { left = length own.rest; failed = nat_lt 0 last.faults })) same;
-      within = subst (λ (l : List ℕ). MayRead (most_buffer general) cut (length l)) (sym own.given_is)
-          (may_read-wider buffer (most_buffer general) cut (length run.read) buffer_within run.within);
-      at_fault = λ is_fault. subst (λ (l : List ℕ). CutsAtRead (stuffing_of general) l (nat_lt 0 last.faults) cut) (sym own.given_is)
-          (subst (λ (n : ℕ). CutsAtRead (stuffing_of general) run.read (nat_lt 0 n) cut) through.faults
-          (read-fault general old new run.read stuffing cut stuffing_is fresh (run.at_fault is_fault)));
+      taken = run.read;
+      taken_are = own.taken;
+      within = may_read-wider buffer (most_buffer general) cut (length run.read) buffer_within run.within;
+      at_fault = λ is_fault. subst (λ (n : ℕ). CutsAtRead (stuffing_of general) run.read (nat_lt 0 n) cut) (ends-faults new last kept through)
+          (read-fault general old new run.read stuffing cut stuffing_is fresh (run.at_fault is_fault));
     }
 
 -- what a run reads of the input that was opened for it
-pub reads-to : {S : Type 0} (seen inner : S → SourceView) (d made next : DeskView) (files : List (List ℕ × List ℕ)) (general : GeneralConf) (conf : InputConf) (old new : InputPart S) (stuffing : model.Stuffing) (buffer cut : ℕ) (why : Cause)
-    → stuffing ≡ stuffing_of general → buffer ≤ most_buffer general → IfSome d.files (λ t. files ≡ t) → OpensInput seen inner d conf old → IsThrough seen inner new → made.closed_in ≡ d.closed_in
+pub reads-to : {S : Type 0} (seen inner : S → SourceView) (d made next : DeskView) (files : List (List ℕ × List ℕ)) (general : GeneralConf) (conf : InputConf) (old new : InputPart S) (kept : Option KeptGaps) (stuffing : model.Stuffing) (buffer cut : ℕ) (why : Cause)
+    → stuffing ≡ stuffing_of general → buffer ≤ most_buffer general → IfSome d.files (λ t. files ≡ t) → OpensInput seen inner d conf old → IsThrough seen inner new kept → made.closed_in ≡ d.closed_in
     → next.closed_in ≡ (input_closed_as inner made new).closed_in → LeftInput seen stuffing buffer old new cut why → ReadsTo general conf files d next cut why
-reads-to seen inner d made next files general (input.File name form) (Stream first) (Stream now) stuffing buffer cut why stuffing_is buffer_within told opens through same is left =
-    reads-file general form (file_of files name) d made next (inner first) (seen first) (seen now) (inner now) stuffing buffer cut why stuffing_is buffer_within
+reads-to seen inner d made next files general (input.File name form resync) (Stream first) (Stream now) kept stuffing buffer cut why stuffing_is buffer_within told opens through same is left =
+    reads-file general form resync kept (file_of files name) d made next (inner first) (seen first) (seen now) (inner now) stuffing buffer cut why stuffing_is buffer_within
     (opens-left (inner first) d files name told opens.0) (ap (λ (s : SourceView). s.faults) opens.0) opens.1 through same is left
-reads-to seen inner d made next files general (input.Null count) (Nulls old) (Nulls new) stuffing buffer cut why stuffing_is buffer_within told opens through same is left = is ∙ same
-reads-to seen inner d made next files general (input.File name form) (Nulls old) new stuffing buffer cut why stuffing_is buffer_within told opens through same is left = absurd opens
-reads-to seen inner d made next files general (input.File name form) (Stream first) (Nulls new) stuffing buffer cut why stuffing_is buffer_within told opens through same is left = absurd left
-reads-to seen inner d made next files general (input.Null count) (Stream first) new stuffing buffer cut why stuffing_is buffer_within told opens through same is left = absurd opens
-reads-to seen inner d made next files general (input.Null count) (Nulls old) (Stream now) stuffing buffer cut why stuffing_is buffer_within told opens through same is left = absurd left
-reads-to seen inner d made next files general (input.File name form) (Generated old packets) new stuffing buffer cut why stuffing_is buffer_within told opens through same is left = absurd opens
-reads-to seen inner d made next files general (input.File name form) (Stream first) (Generated new packets) stuffing buffer cut why stuffing_is buffer_within told opens through same is left = absurd left
-reads-to seen inner d made next files general (input.Null count) (Generated old packets) new stuffing buffer cut why stuffing_is buffer_within told opens through same is left = absurd opens
-reads-to seen inner d made next files general (input.Null count) (Nulls old) (Generated new packets) stuffing buffer cut why stuffing_is buffer_within told opens through same is left = absurd left
-reads-to seen inner d made next files general (input.TestGen seed count) (Stream first) new stuffing buffer cut why stuffing_is buffer_within told opens through same is left = absurd opens
-reads-to seen inner d made next files general (input.TestGen seed count) (Nulls old) new stuffing buffer cut why stuffing_is buffer_within told opens through same is left = absurd opens
-reads-to seen inner d made next files general (input.TestGen seed count) (Generated old packets) (Stream now) stuffing buffer cut why stuffing_is buffer_within told opens through same is left = absurd left
-reads-to seen inner d made next files general (input.TestGen seed count) (Generated old packets) (Nulls now) stuffing buffer cut why stuffing_is buffer_within told opens through same is left = absurd left
-reads-to seen inner d made next files general (input.TestGen seed count) (Generated old packets) (Generated new as_many) stuffing buffer cut why stuffing_is buffer_within told opens through same is left = is ∙ same
+reads-to seen inner d made next files general (input.Null count) (Nulls old) (Nulls new) kept stuffing buffer cut why stuffing_is buffer_within told opens through same is left = is ∙ same
+reads-to seen inner d made next files general (input.File name form resync) (Nulls old) new kept stuffing buffer cut why stuffing_is buffer_within told opens through same is left = absurd opens
+reads-to seen inner d made next files general (input.File name form resync) (Stream first) (Nulls new) kept stuffing buffer cut why stuffing_is buffer_within told opens through same is left = absurd left
+reads-to seen inner d made next files general (input.Null count) (Stream first) new kept stuffing buffer cut why stuffing_is buffer_within told opens through same is left = absurd opens
+reads-to seen inner d made next files general (input.Null count) (Nulls old) (Stream now) kept stuffing buffer cut why stuffing_is buffer_within told opens through same is left = absurd left
+reads-to seen inner d made next files general (input.File name form resync) (Generated old packets) new kept stuffing buffer cut why stuffing_is buffer_within told opens through same is left = absurd opens
+reads-to seen inner d made next files general (input.File name form resync) (Stream first) (Generated new packets) kept stuffing buffer cut why stuffing_is buffer_within told opens through same is left = absurd left
+reads-to seen inner d made next files general (input.Null count) (Generated old packets) new kept stuffing buffer cut why stuffing_is buffer_within told opens through same is left = absurd opens
+reads-to seen inner d made next files general (input.Null count) (Nulls old) (Generated new packets) kept stuffing buffer cut why stuffing_is buffer_within told opens through same is left = absurd left
+reads-to seen inner d made next files general (input.TestGen seed count) (Stream first) new kept stuffing buffer cut why stuffing_is buffer_within told opens through same is left = absurd opens
+reads-to seen inner d made next files general (input.TestGen seed count) (Nulls old) new kept stuffing buffer cut why stuffing_is buffer_within told opens through same is left = absurd opens
+reads-to seen inner d made next files general (input.TestGen seed count) (Generated old packets) (Stream now) kept stuffing buffer cut why stuffing_is buffer_within told opens through same is left = absurd left
+reads-to seen inner d made next files general (input.TestGen seed count) (Generated old packets) (Nulls now) kept stuffing buffer cut why stuffing_is buffer_within told opens through same is left = absurd left
+reads-to seen inner d made next files general (input.TestGen seed count) (Generated old packets) (Generated new as_many) kept stuffing buffer cut why stuffing_is buffer_within told opens through same is left = is ∙ same
 
 -- a read fails only of an input that was opened by a name
 pub read-named : {S : Type 0} (seen inner : S → SourceView) (d : DeskView) (conf : InputConf) (old new : InputPart S) (stuffing : model.Stuffing) (buffer cut : ℕ) (why : Cause)
     → OpensInput seen inner d conf old → LeftInput seen stuffing buffer old new cut why → why ≡ Input ReadFault → IsSome (input_name conf)
-read-named seen inner d (input.File name form) old new stuffing buffer cut why opens left is = refl
+read-named seen inner d (input.File name form resync) old new stuffing buffer cut why opens left is = refl
 read-named seen inner d (input.Null count) (Nulls old) (Nulls new) stuffing buffer cut why opens left is = absurd (left is)
 read-named seen inner d (input.Null count) (Nulls old) (Stream now) stuffing buffer cut why opens left is = absurd left
 read-named seen inner d (input.Null count) (Stream first) new stuffing buffer cut why opens left is = absurd opens

@@ -9,7 +9,8 @@ use Rattle.chain_args.specs.declared.plan_type.Plan.{Plan}
 use Rattle.ts_outside.specs.Count.{HasCause}
 use Rattle.ts_outside.specs.Desk.{DeskView}
 use Rattle.chain_model.specs.PureRun.{Chain}
-use Rattle.tsp_top.specs.Faults.{has_faults}
+use Rattle.tsp_top.specs.Faults.{run_faults}
+use Rattle.tsp_top.specs.LeftOut.{LeftOut}
 use Rattle.tsp_top.specs.PlannedChain.{output_name}
 use Rattle.tsp_top.specs.declared.status.Status.{Status}
 use Rattle.tsp_top.specs.declared.status.Status.TheVariants.{Done, NoMemory, ReadFault, WriteFault, Sync, Refused, TooLong, InputEnded, FaultFound}
@@ -93,13 +94,13 @@ LateRose output old new why false =
     (status_of why ≡ Done → new.write_faults ≡ old.write_faults) × (new.report_faults ≡ old.report_faults)
 
 -- the status says how the call ended, and it is that of a fault only where the count of the fault rose
-abbrev pub StatusTellsCause : Plan → Chain → DeskView → DeskView → Status → CallOutcome → Type 0
-StatusTellsCause plan chain old new status no_input =
+abbrev pub StatusTellsCause : Plan → Option LeftOut → Chain → DeskView → DeskView → Status → CallOutcome → Type 0
+StatusTellsCause plan left_out chain old new status no_input =
     (status ≡ ReadFault) × HasCause old.read_faults new.read_faults
-StatusTellsCause plan chain old new status no_output =
+StatusTellsCause plan left_out chain old new status no_output =
     (status ≡ WriteFault) × HasCause old.write_faults new.write_faults
-StatusTellsCause plan chain old new status (ran cut why late) =
-    (status ≡ run_status plan.general (has_faults chain cut) why late)
+StatusTellsCause plan left_out chain old new status (ran cut why late) =
+    (status ≡ run_status plan.general (run_faults plan.general left_out chain cut why) why late)
     × FaultRose old new why × LateRose (output_name plan.output) old new why late
-StatusTellsCause plan chain old new status (unreported cut why) = (status ≡ NoMemory) × FaultRose old new why
-StatusTellsCause plan chain old new status out_of_memory = status ≡ NoMemory
+StatusTellsCause plan left_out chain old new status (unreported cut why) = (status ≡ NoMemory) × FaultRose old new why
+StatusTellsCause plan left_out chain old new status out_of_memory = status ≡ NoMemory

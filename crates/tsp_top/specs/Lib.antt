@@ -10,6 +10,7 @@ pub mod PlannedChain
 pub mod PlannedTables
 pub mod Printed
 pub mod Printing
+pub mod LeftOut
 pub mod LiveEnds
 pub mod Ran
 pub mod Readings

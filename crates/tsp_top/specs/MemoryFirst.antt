@@ -2,13 +2,13 @@
 use Rattle.std.specs.Prelude.{◌≡◌, ◌≢◌, ℕ, zero, suc, List, [], ◌∷◌, Some}
 use Rattle.std.specs.List.{All}
 use Rattle.plugin_set.specs.declared.plugin_item.PluginItem.{PluginItem}
-use Rattle.plugin_set.specs.Plugins.{preallocated_of}
+use Rattle.plugin_set.specs.Items.{preallocated_of_item}
 use Rattle.chain_model.specs.declared.cause.Cause.{Cause}
 use Rattle.chain_model.specs.declared.cause.Cause.TheVariants.{NoMemory}
 
 -- the plugin takes its room before the run, for as many positions as the buffer has
 abbrev pub IsPreallocated : PluginItem → Type 0
-IsPreallocated item = (buffer : ℕ) → preallocated_of item.conf buffer ≡ Some buffer
+IsPreallocated item = (buffer : ℕ) → preallocated_of_item item buffer ≡ Some buffer
 
 abbrev pub ArePreallocated : List PluginItem → Type 0
 ArePreallocated items = All IsPreallocated items

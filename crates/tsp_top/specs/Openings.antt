@@ -1,28 +1,34 @@
 -- The desk after the two ends of a chain were opened and closed. This project's own rule.
-use Rattle.std.specs.Prelude.{◌≡◌, ℕ, [], Bool}
+use Rattle.std.specs.Prelude.{◌≡◌, ◌<◌, ◌^◌, ℕ, [], Bool, true, false, Option, None}
 use Rattle.std.specs.Option.{option_map}
 use Rattle.chain_args.specs.declared.input_conf.InputConf.{InputConf}
 use Rattle.chain_args.specs.declared.input_conf.InputConf.TheVariants as input
 use Rattle.chain_args.specs.declared.output_conf.OutputConf.{OutputConf}
 use Rattle.chain_args.specs.declared.output_conf.OutputConf.TheVariants as output
-use Rattle.packet_forms.specs.FormView.{form_view, ReadsThrough}
+use Rattle.packet_forms.specs.declared.forms.Form.{Form}
+use Rattle.packet_forms.specs.FormView.{form_view}
+use Rattle.packet_search.specs.Rule.{deciding_bytes}
+use Rattle.search_source.specs.Coming.{found_in}
+use Rattle.search_source.specs.FileView.{EndsAs}
+use Rattle.search_source.specs.declared.file_source.KeptGaps.{KeptGaps}
 use Rattle.stage_run.specs.declared.input_part.InputPart.{InputPart}
 use Rattle.stage_run.specs.declared.input_part.InputPart.TheVariants.{Stream, Nulls, Generated}
 use Rattle.stage_run.specs.declared.output_part.OutputPart.{OutputPart}
 use Rattle.stage_run.specs.declared.output_part.OutputPart.TheVariants as out
 use Rattle.ts_outside.specs.declared.requests.Purpose.TheVariants.{Input, Output}
 use Rattle.ts_outside.specs.Source.{SourceView, own_bytes}
+use Rattle.ts_outside.specs.Told.{told_length}
 use Rattle.ts_outside.specs.Sink.{SinkView}
 use Rattle.ts_outside.specs.Desk.{DeskView, asked_well, asked_in_vain, content, input_closed, output_closed}
 
 -- the desk after the input was opened, and after that failed
 abbrev pub asked_input : DeskView → InputConf → DeskView
-asked_input desk (input.File name form) = asked_well desk Input name
+asked_input desk (input.File name form resync) = asked_well desk Input name
 asked_input desk (input.Null count) = desk
 asked_input desk (input.TestGen seed count) = desk
 
 abbrev pub asked_input_in_vain : DeskView → InputConf → DeskView
-asked_input_in_vain desk (input.File name form) = asked_in_vain desk Input name
+asked_input_in_vain desk (input.File name form resync) = asked_in_vain desk Input name
 asked_input_in_vain desk (input.Null count) = desk
 asked_input_in_vain desk (input.TestGen seed count) = desk
 
@@ -37,7 +43,7 @@ asked_output_in_vain desk output.Drop = desk
 
 -- there is something to open
 abbrev pub NamesInput : InputConf → Type 0
-NamesInput (input.File name form) = Unit {0}
+NamesInput (input.File name form resync) = Unit {0}
 NamesInput (input.Null count) = ⊥
 NamesInput (input.TestGen seed count) = ⊥
 
@@ -51,21 +57,31 @@ IsGenerated seed count (Generated generator packets) =
     (generator ≡ record { seed = seed; given = 0 }) × (packets ≡ count)
 IsGenerated seed count _ = ⊥
 
+-- what is seen of a source of the packets of a file, at their places or found again, before anything was read
+abbrev pub packets_view : Bool → Form → SourceView → SourceView
+packets_view false form own = form_view form 0 own own
+packets_view true form own = record {
+  left = option_map (λ file. (found_in form file).bytes) own.left;
+  faults = own.faults;
+  origin = record { unit = deciding_bytes form; bytes = own.left };
+}
+
 -- the part of an input that was opened: the null packets, the generated stream, or a source of the packets of a file.
 -- `inner` is what is seen of the file's own source after that one: all bytes of the file are left to it
 abbrev pub OpensInput : {S : Type 0} → (S → SourceView) → (S → SourceView) → DeskView → InputConf → InputPart S → Type 0
-OpensInput seen inner desk (input.File name form) (Stream source) =
+OpensInput seen inner desk (input.File name form resync) (Stream source) =
     (inner source ≡ record { left = content desk name; faults = 0; origin = own_bytes })
-    × (seen source ≡ form_view form 0 (inner source) (inner source))
+    × (seen source ≡ packets_view resync form (inner source))
+    × (told_length (inner source).left < 2 ^ 63)
 OpensInput seen inner desk (input.Null count) (Nulls packets) = packets ≡ count
 OpensInput seen inner desk (input.TestGen seed count) part = IsGenerated seed count part
 OpensInput seen inner desk _ _ = ⊥
 
--- the source of the packets of an input, if it has one, and the file's own stand to each other
-abbrev pub IsThrough : {S : Type 0} → (S → SourceView) → (S → SourceView) → InputPart S → Type 0
-IsThrough seen inner (Stream source) = ReadsThrough (seen source) (inner source)
-IsThrough seen inner (Nulls packets) = Unit {0}
-IsThrough seen inner (Generated generator packets) = Unit {0}
+-- the source of the packets of an input, if it has one, and the file's own stand to each other; and which gaps were kept
+abbrev pub IsThrough : {S : Type 0} → (S → SourceView) → (S → SourceView) → InputPart S → Option KeptGaps → Type 0
+IsThrough seen inner (Stream source) kept = EndsAs (seen source) (inner source) kept
+IsThrough seen inner (Nulls packets) kept = kept ≡ None
+IsThrough seen inner (Generated generator packets) kept = kept ≡ None
 
 -- the part of an output that was opened: a sink of the name that took nothing, or none
 abbrev pub OpensOutput : {K : Type 0} → (K → SinkView) → DeskView → OutputConf → OutputPart K → Type 0

@@ -1,5 +1,5 @@
 -- A chain that ran between its two opened ends. This project's own rule.
-use Rattle.std.specs.Prelude.{◌≡◌, ◌≤◌, ℕ, List, map, Bool, ◌⊎◌, Option, Result, IfOk, OnErr}
+use Rattle.std.specs.Prelude.{◌≡◌, ◌≤◌, ℕ, List, map, Bool, ◌⊎◌, ◌||◌, Option, Result, IfOk, OnErr}
 use Rattle.std.specs.declared.alloc.AllocError.{AllocError}
 use Rattle.std.specs.Bool.{OnTrue}
 use Rattle.ts_packet.specs.declared.cell.Cell.{Cell}
@@ -24,13 +24,15 @@ use Rattle.chain_run.specs.RunOf.{RunBy, NeverBegan}
 use Rattle.chain_model.specs.Apply.{StageList}
 use Rattle.chain_model.specs.PureRun.{Chain}
 use Rattle.chain_live.specs.LiveReports.{lines_below}
-use Rattle.plugin_set.specs.Plugins.{preallocated_of}
+use Rattle.plugin_set.specs.Items.{preallocated_of_item}
+use Rattle.search_source.specs.declared.file_source.KeptGaps.{KeptGaps}
 use Rattle.tsp_top.specs.ByPlugin.{by_plugin}
 use Rattle.tsp_top.specs.PlannedChain.{stuffing_of, named_rules, users_of}
 use Rattle.tsp_top.specs.PlannedTables.{AreTables, tables_asked}
 use Rattle.tsp_top.specs.PlannedCore.{IsPlannedCore}
 use Rattle.tsp_top.specs.Openings.{asked_input, asked_output, OpensInput, OpensOutput, IsThrough, input_closed_as, output_closed_as, WasOpened}
 use Rattle.tsp_top.specs.Faults.{faults_from}
+use Rattle.tsp_top.specs.LeftOut.{KnowsAll, input_faulty, kept_out}
 use Rattle.tsp_top.specs.Printed.{reported_as}
 use Rattle.tsp_top.specs.Reported.{ReportsAsked}
 use Rattle.tsp_top.specs.declared.status.Status.{Status}
@@ -53,7 +55,7 @@ pub record IsReady {P : Type 0}
   pub numbers_are : IsPlannedCore plan numbers
   pub rules : map (by_plugin rule) plugins ≡ rules_of (named_rules plan.plugins tables)
   -- each took its room for as many positions as the buffer has, where its settings say that it does
-  pub rooms : map (by_plugin preallocated) plugins ≡ map (λ item. preallocated_of item.conf numbers.buffer) plan.plugins
+  pub rooms : map (by_plugin preallocated) plugins ≡ map (λ item. preallocated_of_item item numbers.buffer) plan.plugins
   pub fresh : AreFresh (HeardStands rule stands) plugins
 
 -- a call whose chain is ready and whose two ends were opened, the input first
@@ -92,14 +94,15 @@ chain_over plan tables input = record {
 -- a run that was closed and reported, or closed only, where there was no memory for its report
 pub record RanClosed {S K P : Type 0} (see : Seeing S K P) (stands : Heard P → List Cell → ℕ → Type 0) (inner : S → SourceView)
     (plan : Plan) (tables : List (List (List ℕ))) (stuffing : Stuffing) (numbers : CorePlan) (old new : DeskView)
-    (from made_from : InputPart S) (plugins : List (Heard P)) (to made_to : OutputPart K)
+    (from made_from : InputPart S) (kept : Option KeptGaps) (plugins : List (Heard P)) (to made_to : OutputPart K)
     (failed : Bool) (status : Status) (closed : Closed) : Type 0 where
   pub made : List (Heard P)
   pub run : RunBy see stands from made_from stuffing plugins made to made_to numbers closed
-  pub reported : ReportsAsked plan.general (reported_as plan.general (chain_over plan tables run.list) closed.cut closed.cause)
+  pub reported : ReportsAsked plan.general (reported_as plan.general (kept_out kept) (chain_over plan tables run.list) closed.cut closed.cause)
       (lines_below (chain_over plan tables run.list) closed.cut)
-      (faults_from (rules_of (named_rules plan.plugins tables)) run.list closed.cut 0 (named_rules plan.plugins tables))
-      closed.cause failed (closed_desk inner see.sink old made_from made_to failed) new status
+      (input_faulty (stuffing_of plan.general) (kept_out kept) closed.cut closed.cause
+      || faults_from (rules_of (named_rules plan.plugins tables)) run.list closed.cut 0 (named_rules plan.plugins tables))
+      (KnowsAll (stuffing_of plan.general) kept closed.cut closed.cause) closed.cause failed (closed_desk inner see.sink old made_from made_to failed) new status
 
 -- there was no memory for the run: the ends were closed as they were opened
 pub record NotRun {S K P : Type 0} (see : Seeing S K P) (inner : S → SourceView) (old new : DeskView)
@@ -113,10 +116,10 @@ pub record NotRun {S K P : Type 0} (see : Seeing S K P) (inner : S → SourceVie
 -- one of the two
 abbrev pub RanEnds : {S K P : Type 0} → Seeing S K P → (Heard P → List Cell → ℕ → Type 0) → (S → SourceView) → Plan → List (List (List ℕ)) → Stuffing → CorePlan → DeskView
     → DeskView
-    → InputPart S → InputPart S → List (Heard P) → OutputPart K → OutputPart K → Bool → Status → Type 0
-RanEnds see stands inner plan tables stuffing numbers old new from made_from plugins to made_to failed status =
+    → InputPart S → InputPart S → Option KeptGaps → List (Heard P) → OutputPart K → OutputPart K → Bool → Status → Type 0
+RanEnds see stands inner plan tables stuffing numbers old new from made_from kept plugins to made_to failed status =
     ((closed : Closed)
-    × RanClosed see stands inner plan tables stuffing numbers old new from made_from plugins to made_to failed status closed)
+    × RanClosed see stands inner plan tables stuffing numbers old new from made_from kept plugins to made_to failed status closed)
     ⊎ NotRun see inner old new from made_from to made_to failed status
 
 -- the chain ran, both ends were closed, and the run was reported; or there was no memory for the run
@@ -128,6 +131,8 @@ pub record RanOpened {S K P : Type 0} (see : Seeing S K P) (stands : Heard P →
   -- whether the closing of the output failed
   pub failed : Bool
   pub failed_opened : OnTrue failed (WasOpened made_to)
+  -- the gaps that were kept of the input, where packets were found again
+  pub kept : Option KeptGaps
   -- what is left of the input's packets is that of its file
-  pub through : IsThrough see.source inner made_from
-  pub ends : RanEnds see stands inner plan tables stuffing numbers old new from made_from plugins to made_to failed status
+  pub through : IsThrough see.source inner made_from kept
+  pub ends : RanEnds see stands inner plan tables stuffing numbers old new from made_from kept plugins to made_to failed status

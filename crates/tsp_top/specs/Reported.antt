@@ -22,12 +22,12 @@ pub record ReachesCut {P : Type 0} (stands : P → List Cell → ℕ → Type 0)
   pub input : StageList
   pub met : AllMetTo stands rules input cut j plugins
 
--- a run is reported: its text, whole or a first part of it where a report failed, with the status of the cause or of the
+-- a run is reported, of which this is known: its text, whole or a first part of it where a report failed, with the status of the cause or of the
 -- late failure; or memory ran out for the text, and nothing is reported
-abbrev pub ReportsRun : GeneralConf → List ℕ → Bool → Cause → Bool → DeskView → DeskView → Status → Type 0
-ReportsRun general text faulty why closing_failed old new status =
+abbrev pub ReportsRun : GeneralConf → List ℕ → Bool → Type 0 → Cause → Bool → DeskView → DeskView → Status → Type 0
+ReportsRun general text faulty known why closing_failed old new status =
     ((failed : Bool) × Says old new text failed
-    × (status ≡ run_status general faulty why (closing_failed || failed)))
+    × (status ≡ run_status general faulty why (closing_failed || failed)) × known)
     ⊎ ((status ≡ NoMemory) × (new ≡ old))
 
 -- the first of these lines were printed while the run went, and a report failed there or none did
@@ -43,8 +43,8 @@ StandsUnreported false bare lines old new = new ≡ old
 StandsUnreported true bare lines old new = SaysFirst bare lines old new
 
 -- a run is reported as the general options ask, or there was no memory for the whole report
-abbrev pub ReportsAsked : GeneralConf → List ℕ → List LiveLine → Bool → Cause → Bool → DeskView → DeskView → Status → Type 0
-ReportsAsked general text lines faulty why closing_failed old new status =
+abbrev pub ReportsAsked : GeneralConf → List ℕ → List LiveLine → Bool → Type 0 → Cause → Bool → DeskView → DeskView → Status → Type 0
+ReportsAsked general text lines faulty known why closing_failed old new status =
     ((failed : Bool) × Says old new text failed
-    × (status ≡ run_status general faulty why (closing_failed || failed)))
+    × (status ≡ run_status general faulty why (closing_failed || failed)) × known)
     ⊎ ((status ≡ NoMemory) × StandsUnreported general.live general.bare lines old new)

@@ -1,5 +1,5 @@
 -- The stream theorem: what a call of `tsp` reads, writes, reports, opens and returns. This project's own rule.
-use Rattle.std.specs.Prelude.{◌≡◌, ◌⊎◌, ℕ, List, [], ◌∷◌, ◌++◌, take, drop, codes, Bool, true, false, IfSome}
+use Rattle.std.specs.Prelude.{◌≡◌, ◌⊎◌, ℕ, List, [], ◌∷◌, ◌++◌, take, drop, codes, Bool, true, false, Option, IfSome}
 use Rattle.chain_model.specs.Prefix.{IsPrefix}
 use Rattle.chain_model.specs.StageLists.{end_list}
 use Rattle.chain_model.specs.Cut.{IsValidFault, IsPureClose}
@@ -16,7 +16,8 @@ use Rattle.ts_outside.specs.Entries.{asked_for, outputs_with}
 use Rattle.chain_model.specs.Written.{IsPartOfFirst}
 use Rattle.tsp_top.specs.CallOutcome.{CallOutcome, no_input, no_output, ran, unreported, out_of_memory, StatusTellsCause}
 use Rattle.tsp_top.specs.CanEnd.{CanEnd}
-use Rattle.tsp_top.specs.PlannedChain.{chain_of, input_name, output_name}
+use Rattle.tsp_top.specs.LeftOut.{LeftOut}
+use Rattle.tsp_top.specs.PlannedChain.{GivenInput, chain_on, GivesInput, input_name, output_name}
 use Rattle.chain_live.specs.LiveReports.{LiveLine, lines_below}
 use Rattle.tsp_top.specs.Printed.{live_text, reported_as}
 use Rattle.tsp_top.specs.Readings.{ReadsNothing, ReadsTo}
@@ -80,13 +81,13 @@ ReportsPart false bare lines old new = ReportsNothing old new
 ReportsPart true bare lines old new = ReportsFirst bare lines old new
 
 -- what is reported
-abbrev pub Reports : Plan → Chain → DeskView → DeskView → CallOutcome → Type 0
-Reports plan chain old new no_input = ReportsText old new (codes "tsp: cannot open input" ++ 10 ∷ [])
-Reports plan chain old new no_output = ReportsText old new (codes "tsp: cannot open output" ++ 10 ∷ [])
-Reports plan chain old new (ran cut why late) = ReportsText old new (reported_as plan.general chain cut why)
-Reports plan chain old new (unreported cut why) =
+abbrev pub Reports : Plan → Option LeftOut → Chain → DeskView → DeskView → CallOutcome → Type 0
+Reports plan left_out chain old new no_input = ReportsText old new (codes "tsp: cannot open input" ++ 10 ∷ [])
+Reports plan left_out chain old new no_output = ReportsText old new (codes "tsp: cannot open output" ++ 10 ∷ [])
+Reports plan left_out chain old new (ran cut why late) = ReportsText old new (reported_as plan.general left_out chain cut why)
+Reports plan left_out chain old new (unreported cut why) =
     ReportsPart plan.general.live plan.general.bare (lines_below chain cut) old new
-Reports plan chain old new out_of_memory = ReportsNothing old new
+Reports plan left_out chain old new out_of_memory = ReportsNothing old new
 
 -- what is opened: first the input, then the output, and each went well but the last where the call says so
 abbrev pub Opens : Plan → DeskView → DeskView → CallOutcome → Type 0
@@ -111,18 +112,21 @@ pub record StreamTheorem (plan : Plan) (tables : List (List (List ℕ))) (old ne
   -- the files by name: those of the desk where they are known, else some
   pub files : List (List ℕ × List ℕ)
   pub files_are : IfSome old.files (λ told. files ≡ told)
+  -- what the input gives
+  pub given : GivenInput
+  pub given_is : GivesInput plan.input old.files files given
   -- the status is that of the cause, as the general options ask
-  pub status_tells_cause : StatusTellsCause plan (chain_of plan tables files) old new status end
+  pub status_tells_cause : StatusTellsCause plan given.left_out (chain_on plan tables given) old new status end
   -- it is an end that this plan can have
   pub can_end : CanEnd plan end
   -- a cause that is no fault is the cause of the run without faults, at its cut
-  pub pure_or_fault : EndsRight (chain_of plan tables files) end
+  pub pure_or_fault : EndsRight (chain_on plan tables given) end
   -- what is read
   pub reads : Reads plan files old new end
   -- what is written
-  pub written : Writes plan (chain_of plan tables files) old new end
+  pub written : Writes plan (chain_on plan tables given) old new end
   -- what is reported, as the general options ask
-  pub reported : Reports plan (chain_of plan tables files) old new end
+  pub reported : Reports plan given.left_out (chain_on plan tables given) old new end
   -- what is opened, in which order
   pub opened : Opens plan old new end
   pub files_stay : new.files ≡ old.files

@@ -2,6 +2,7 @@
 ghost use Rattle.std.specs.Prelude.{◌≡◌, ℕ, List, map, MatchResult};
 ghost use Rattle.chain_args.specs.ValidPlan.{IsValidPlan};
 ghost use Rattle.stage_run.specs.Seeing.{seeing};
+ghost use Rattle.search_source.specs.FileView.{of_either};
 ghost use Rattle.ts_outside.specs.Desk.{DeskView};
 ghost use Rattle.tsp_top.specs.Openings.{asked_input, OpensInput};
 ghost use Rattle.tsp_top.specs.Ran.{IsReady, IsOpened, OpensPlan};
@@ -10,13 +11,12 @@ ghost use Rattle.tsp_top.specs.TspCall.{CallsPlan, IsOverBefore};
 
 use crate::driver::Driver;
 use crate::opened_call::OpenedCall;
-use crate::opening::{close_input, open_input, open_output};
+use crate::opening::{PacketSource, close_input, open_input, open_output};
 use crate::ready::{ReadyChain, ready_chain};
 use crate::status::Status;
 use crate::tables::read_tables;
 use chain_args::Plan;
 use chain_run::Stages;
-use packet_forms::FormSource;
 use plugin_set::AnyPlugin;
 use plugin_trait::Plugin;
 use stage_run::InputPart;
@@ -31,13 +31,13 @@ pub(crate) fn begin_plan<D: Desk>(
     desk: &mut D,
     plan: &Plan,
     driver: Driver,
-) -> Result<OpenedCall<FormSource<D::In>, D::Out, AnyPlugin>, Status>
+) -> Result<OpenedCall<PacketSource<D::In>, D::Out, AnyPlugin>, Status>
     requires { IsValidPlan plan.now }
     ensures { MatchResult result
         (λ call. OpensPlan
-        (seeing ⟦<FormSource<D::In> as Source>⟧.seen D.Out.seen
+        (seeing ⟦<PacketSource<D::In> as Source>⟧.seen D.Out.seen
         ⟦<AnyPlugin as Plugin>⟧.rule ⟦<AnyPlugin as Plugin>⟧.stands_for ⟦<AnyPlugin as Plugin>⟧.preallocated)
-        (λ source. D.In.seen source.source)
+        (of_either (λ placed. D.In.seen placed.source) (λ found. D.In.seen found.source.source))
         plan.now call.core (D.seen desk.old) (D.seen desk.new)
         call.stages.input call.stages.stuffing call.stages.plugins.items call.stages.output)
         (λ status. CallsPlan plan.now (D.seen desk.old) (D.seen desk.new) status) }
@@ -55,13 +55,13 @@ fn begin_chain<D: Desk>(
     plan: &Plan,
     tables: Vec<Vec<Section>>,
     driver: Driver,
-) -> Result<OpenedCall<FormSource<D::In>, D::Out, AnyPlugin>, Status>
+) -> Result<OpenedCall<PacketSource<D::In>, D::Out, AnyPlugin>, Status>
     requires { IsValidPlan plan.now }
     ensures { MatchResult result
         (λ call. IsOpened
-        (seeing ⟦<FormSource<D::In> as Source>⟧.seen D.Out.seen
+        (seeing ⟦<PacketSource<D::In> as Source>⟧.seen D.Out.seen
         ⟦<AnyPlugin as Plugin>⟧.rule ⟦<AnyPlugin as Plugin>⟧.stands_for ⟦<AnyPlugin as Plugin>⟧.preallocated)
-        (λ source. D.In.seen source.source)
+        (of_either (λ placed. D.In.seen placed.source) (λ found. D.In.seen found.source.source))
         plan.now (map (λ table. table.items) tables.items) call.core (D.seen desk.old) (D.seen desk.new)
         call.stages.input call.stages.stuffing call.stages.plugins.items call.stages.output)
         (λ status. IsOverBefore plan.now (map (λ table. table.items) tables.items)
@@ -79,12 +79,12 @@ fn open_ends<P: Plugin + Drop, D: Desk>(
     desk: &mut D,
     plan: &Plan,
     ready: ReadyChain<P>,
-) -> Result<OpenedCall<FormSource<D::In>, D::Out, P>, Status>
+) -> Result<OpenedCall<PacketSource<D::In>, D::Out, P>, Status>
     ensures { (tables : List (List (List ℕ)))
         → IsReady P.rule P.stands_for P.preallocated plan.now tables ready.stuffing ready.core ready.plugins.items
         → MatchResult result
-        (λ call. IsOpened (seeing ⟦<FormSource<D::In> as Source>⟧.seen D.Out.seen P.rule P.stands_for P.preallocated)
-        (λ source. D.In.seen source.source)
+        (λ call. IsOpened (seeing ⟦<PacketSource<D::In> as Source>⟧.seen D.Out.seen P.rule P.stands_for P.preallocated)
+        (of_either (λ placed. D.In.seen placed.source) (λ found. D.In.seen found.source.source))
         plan.now tables call.core (D.seen desk.old) (D.seen desk.new)
         call.stages.input call.stages.stuffing call.stages.plugins.items call.stages.output)
         (λ status. IsOverBefore plan.now tables (D.seen desk.old) (D.seen desk.new) status) }
@@ -104,17 +104,17 @@ fn open_after<P: Plugin + Drop, D: Desk>(
     desk: &mut D,
     plan: &Plan,
     ready: ReadyChain<P>,
-    input: InputPart<FormSource<D::In>>,
-) -> Result<OpenedCall<FormSource<D::In>, D::Out, P>, Status>
-    requires { ((old : DeskView) × OpensInput ⟦<FormSource<D::In> as Source>⟧.seen (λ source. D.In.seen source.source) old plan.now.input
+    input: InputPart<PacketSource<D::In>>,
+) -> Result<OpenedCall<PacketSource<D::In>, D::Out, P>, Status>
+    requires { ((old : DeskView) × OpensInput ⟦<PacketSource<D::In> as Source>⟧.seen (of_either (λ placed. D.In.seen placed.source) (λ found. D.In.seen found.source.source)) old plan.now.input
         input) }
     ensures { (tables : List (List (List ℕ))) (old : DeskView)
         → IsReady P.rule P.stands_for P.preallocated plan.now tables ready.stuffing ready.core ready.plugins.items
         → D.seen desk.old ≡ asked_input old plan.now.input
-        → OpensInput ⟦<FormSource<D::In> as Source>⟧.seen (λ source. D.In.seen source.source) old plan.now.input input
+        → OpensInput ⟦<PacketSource<D::In> as Source>⟧.seen (of_either (λ placed. D.In.seen placed.source) (λ found. D.In.seen found.source.source)) old plan.now.input input
         → MatchResult result
-        (λ call. IsOpened (seeing ⟦<FormSource<D::In> as Source>⟧.seen D.Out.seen P.rule P.stands_for P.preallocated)
-        (λ source. D.In.seen source.source)
+        (λ call. IsOpened (seeing ⟦<PacketSource<D::In> as Source>⟧.seen D.Out.seen P.rule P.stands_for P.preallocated)
+        (of_either (λ placed. D.In.seen placed.source) (λ found. D.In.seen found.source.source))
         plan.now tables call.core old (D.seen desk.new)
         call.stages.input call.stages.stuffing call.stages.plugins.items call.stages.output)
         (λ status. StreamTheorem plan.now tables old (D.seen desk.new) status) }
@@ -137,12 +137,12 @@ fn open_after<P: Plugin + Drop, D: Desk>(
             })
         }
         Err(OpenFault::Failed) => {
-            close_input(desk, input);
+            let _kept = close_input(desk, input);
             say(desk, "tsp: cannot open output\n");
             Err(Status::WriteFault)
         }
         Err(OpenFault::NoMemory) => {
-            close_input(desk, input);
+            let _kept = close_input(desk, input);
             Err(Status::NoMemory)
         }
     }

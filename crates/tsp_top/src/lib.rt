@@ -10,6 +10,7 @@ mod driver;
 mod end_line;
 mod finishing;
 mod in_threads;
+mod input_report;
 mod judging;
 mod live_report;
 mod live_run;

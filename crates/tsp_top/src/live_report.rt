@@ -1,5 +1,5 @@
 //! The end of a report that was printed while the run went: the summaries of the plugins, then the line for the end.
-ghost use Rattle.std.specs.Prelude.{◌≡◌, ◌<◌, ◌+◌, ◌^◌, ◌≤◌, ◌++◌, ℕ, List, [], length, map, take, true, IfOk, OnOk, if◌then◌else◌};
+ghost use Rattle.std.specs.Prelude.{◌≡◌, ◌<◌, ◌+◌, ◌^◌, ◌≤◌, ◌++◌, ◌||◌, ℕ, List, [], length, map, take, true, IfOk, OnOk, if◌then◌else◌};
 ghost use Rattle.std.specs.String.{string_bytes};
 ghost use Rattle.ts_packet.specs.declared.cell.Cell.{Cell};
 ghost use Rattle.chain_model.specs.Apply.{StageList};
@@ -11,23 +11,27 @@ ghost use Rattle.plugin_trait.specs.Marks.{AllowsMark};
 ghost use Rattle.ts_outside.specs.Desk.{DeskView};
 ghost use Rattle.tsp_top.specs.ByPlugin.{by_plugin};
 ghost use Rattle.tsp_top.specs.Faults.{faults_from};
+ghost use Rattle.tsp_top.specs.LeftOut.{KnowsAll, input_faulty, kept_out};
 ghost use Rattle.tsp_top.specs.LiveEnds.{plugin_stands};
-ghost use Rattle.tsp_top.specs.PlannedChain.{named_rules};
-ghost use Rattle.tsp_top.specs.Printed.{reported_as, summaries_printed};
+ghost use Rattle.chain_args.specs.ValidPlan.{IsValidGeneral};
+ghost use Rattle.tsp_top.specs.PlannedChain.{named_rules, stuffing_of};
+ghost use Rattle.tsp_top.specs.Printed.{input_printed, reported_as, summaries_printed};
 ghost use Rattle.tsp_top.specs.Printing.{HasPrinted};
 ghost use Rattle.tsp_top.specs.Ran.{chain_over};
 ghost use Rattle.tsp_top.specs.Reported.{ReachesCut, ReportsAsked};
 
 use crate::call_notes::PluginNotes;
+use crate::input_report::push_input;
 use crate::live_run::Printed;
 use crate::report::{Judged, last_text, one_failed};
 use crate::reporting::{either, push_lines};
 use crate::saying::say_on;
 use crate::status::{Status, status_of_run};
-use chain_args::Plan;
+use chain_args::{GeneralConf, Plan};
 use chain_core::Closed;
 use plugin_set::PluginItem;
 use plugin_trait::{Heard, Line, Plugin};
+use search_source::KeptGaps;
 use std::alloc::{AllocError, Global};
 use ts_outside::Desk;
 
@@ -98,27 +102,35 @@ fn push_summaries<P: Plugin>(
     Ok(either(first_faulty, later_faulty))
 }
 
-/// What is reported after the lines of a run: the summaries of the plugins, then the end line, unless the report is to be bare; and
+/// What is reported after the lines of a run: what the input reports, the summaries of the plugins, then the end line, unless the report is to be bare; and
 /// whether a plugin has a fault before the cut.
 fn last_part<P: Plugin>(
     alloc: Global,
-    bare: bool,
+    general: &GeneralConf,
+    kept: &Option<KeptGaps>,
     plugins: &mut [Heard<P>],
     items: &[PluginItem],
     closed: Closed,
 ) -> Result<Judged, AllocError>
+    requires valid { IsValidGeneral general.now }
     requires numbers { length plugins.old < 2 ^ 62 }
     requires reach { ReachesCut (plugin_stands P.stands_for) plugins.old closed.cut 0 }
     ensures { (tables : List (List (List ℕ))) (rules : List PluginRule) (input : StageList)
         → map (by_plugin P.rule) plugins.old ≡ rules_of (named_rules items.now tables)
         → AllMetTo (plugin_stands P.stands_for) rules input closed.cut 0 plugins.old
         → IfOk result (λ judged.
-        (judged.faulty ≡ faults_from rules input closed.cut 0 (named_rules items.now tables))
-        × (string_bytes judged.text ≡ summaries_printed bare rules input closed.cut 0 (named_rules items.now tables)
-        ++ (if bare then [] else end_line closed.cause closed.cut))) }
+        (judged.faulty ≡ (input_faulty (stuffing_of general.now) (kept_out kept.now) closed.cut closed.cause
+        || faults_from rules input closed.cut 0 (named_rules items.now tables)))
+        × (string_bytes judged.text ≡ input_printed general.now.bare (stuffing_of general.now) (kept_out kept.now) closed.cut closed.cause
+        ++ (summaries_printed general.now.bare rules input closed.cut 0 (named_rules items.now tables)
+        ++ (if general.now.bare then [] else end_line closed.cause closed.cut)))
+        × KnowsAll (stuffing_of general.now) kept.now closed.cut closed.cause) }
 {
     let mut text = String::new(alloc);
-    let faulty = push_summaries(alloc, &mut text, bare, plugins, items, 0, closed.cut)?;
+    let bare = general.bare;
+    let input_faulty = push_input(alloc, &mut text, general, kept, closed)?;
+    let plugin_faulty = push_summaries(alloc, &mut text, bare, plugins, items, 0, closed.cut)?;
+    let faulty = either(input_faulty, plugin_faulty);
     let last = last_text(alloc, bare, closed)?;
     text.push_str(last.as_str())?;
     Ok(Judged { text, faulty })
@@ -130,6 +142,7 @@ pub(crate) fn report_live<P: Plugin, D: Desk>(
     alloc: Global,
     desk: &mut D,
     plan: &Plan,
+    kept: &Option<KeptGaps>,
     plugins: &mut [Heard<P>],
     closed: Closed,
     closing_failed: bool,
@@ -137,6 +150,7 @@ pub(crate) fn report_live<P: Plugin, D: Desk>(
     notes: &mut PluginNotes,
 ) -> Status
     requires live { plan.now.general.live ≡ true }
+    requires valid { IsValidGeneral plan.now.general }
     requires numbers { length plugins.old < 2 ^ 62 }
     requires reach { ReachesCut (plugin_stands P.stands_for) plugins.old closed.cut 0 }
     ensures { (tables : List (List (List ℕ))) (input : StageList) (first : DeskView)
@@ -144,16 +158,17 @@ pub(crate) fn report_live<P: Plugin, D: Desk>(
         → AllMetTo (plugin_stands P.stands_for) (map (by_plugin P.rule) plugins.old) input closed.cut 0 plugins.old
         → HasPrinted plan.now.general.bare (lines_below (chain_over plan.now tables input) closed.cut)
         first (D.seen desk.old) printed.failed printed.whole
-        → ReportsAsked plan.now.general (reported_as plan.now.general (chain_over plan.now tables input) closed.cut closed.cause)
+        → ReportsAsked plan.now.general (reported_as plan.now.general (kept_out kept.now) (chain_over plan.now tables input) closed.cut closed.cause)
         (lines_below (chain_over plan.now tables input) closed.cut)
-        (faults_from (rules_of (named_rules plan.now.plugins tables)) input closed.cut 0 (named_rules plan.now.plugins tables))
-        closed.cause closing_failed first (D.seen desk.new) result }
+        (input_faulty (stuffing_of plan.now.general) (kept_out kept.now) closed.cut closed.cause
+        || faults_from (rules_of (named_rules plan.now.plugins tables)) input closed.cut 0 (named_rules plan.now.plugins tables))
+        (KnowsAll (stuffing_of plan.now.general) kept.now closed.cut closed.cause) closed.cause closing_failed first (D.seen desk.new) result }
 {
     if !printed.whole {
         return Status::NoMemory;
     }
     let items = plan.plugins.as_slice();
-    match last_part(alloc, plan.general.bare, plugins, items, closed) {
+    match last_part(alloc, &plan.general, kept, plugins, items, closed) {
         Ok(Judged { text, faulty }) => {
             let mut failed = printed.failed;
             say_on(desk, &mut failed, text.as_str());

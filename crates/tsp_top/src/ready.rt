@@ -2,8 +2,7 @@
 ghost use Rattle.std.specs.Prelude.{◌≡◌, ◌++◌, ◌∷◌, [], map, IfOk, IsOkAnd, OnOk};
 ghost use Rattle.std.specs.List.{All};
 ghost use Rattle.plugin_trait.specs.HeardStands.{HeardStands};
-ghost use Rattle.plugin_set.specs.Items.{IsValidItem};
-ghost use Rattle.plugin_set.specs.Plugins.{preallocated_of};
+ghost use Rattle.plugin_set.specs.Items.{IsValidItem, preallocated_of_item};
 ghost use Rattle.chain_args.specs.ValidPlan.{IsValidPlan};
 ghost use Rattle.chain_model.specs.Reports.{rules_of};
 ghost use Rattle.chain_run.specs.Fresh.{AreFresh};
@@ -82,7 +81,7 @@ fn add_plugins(
     ensures rooms { OnOk result
         (map (by_plugin ⟦<AnyPlugin as Plugin>⟧.preallocated) plugins.new.items
         ≡ map (by_plugin ⟦<AnyPlugin as Plugin>⟧.preallocated) plugins.old.items
-        ++ map (λ item. preallocated_of item.conf buffer) items.now) }
+        ++ map (λ item. preallocated_of_item item buffer) items.now) }
     ensures fresh { OnOk result (AreFresh (HeardStands ⟦<AnyPlugin as Plugin>⟧.rule ⟦<AnyPlugin as Plugin>⟧.stands_for) plugins.new.items) }
 {
     let Some((item, rest)) = items.split_first() else {

@@ -1,24 +1,28 @@
 //! The report of a run that was closed, and its status.
-ghost use Rattle.std.specs.Prelude.{◌≡◌, ◌<◌, ◌^◌, ◌||◌, ℕ, List, [], length, map, IfOk, if◌then◌else◌};
+ghost use Rattle.std.specs.Prelude.{◌≡◌, ◌<◌, ◌^◌, ◌||◌, ◌++◌, ℕ, List, [], length, map, IfOk, if◌then◌else◌};
 ghost use Rattle.std.specs.String.{string_bytes};
 ghost use Rattle.chain_model.specs.Apply.{StageList};
 ghost use Rattle.chain_model.specs.Reports.{end_line, rules_of};
 ghost use Rattle.plugin_trait.specs.HeardStands.{HeardStands};
 ghost use Rattle.chain_run.specs.Met.{AllMetTo};
 ghost use Rattle.tsp_top.specs.ByPlugin.{by_plugin};
-ghost use Rattle.tsp_top.specs.PlannedChain.{named_rules};
+ghost use Rattle.tsp_top.specs.PlannedChain.{named_rules, stuffing_of};
 ghost use Rattle.tsp_top.specs.Faults.{faults_from};
-ghost use Rattle.tsp_top.specs.Printed.{reports_asked};
+ghost use Rattle.tsp_top.specs.LeftOut.{KnowsAll, input_faulty, kept_out};
+ghost use Rattle.chain_args.specs.ValidPlan.{IsValidGeneral};
+ghost use Rattle.tsp_top.specs.Printed.{input_printed, reports_asked};
 ghost use Rattle.tsp_top.specs.Reported.{ReachesCut, ReportsRun};
 
 use crate::call_notes::PluginNotes;
 use crate::end_line::end_line_text;
-use crate::reporting::push_reports;
+use crate::input_report::push_input;
+use crate::reporting::{either, push_reports};
 use crate::status::{Status, status_of_run};
 use chain_args::GeneralConf;
 use chain_core::Closed;
 use plugin_set::PluginItem;
 use plugin_trait::{Heard, Plugin};
+use search_source::KeptGaps;
 use std::alloc::{AllocError, Global};
 use ts_outside::{Desk, say};
 
@@ -39,26 +43,33 @@ pub(crate) struct Judged {
     pub(crate) faulty: bool,
 }
 
-/// All that is reported of a run: what the plugins report of the cells before the cut, then the end line, unless the report is
+/// All that is reported of a run: what the input reports, what the plugins report of the cells before the cut, then the end line, unless the report is
 /// to be bare; and whether one of them has a fault there.
 fn report_text<P: Plugin>(
     alloc: Global,
     general: &GeneralConf,
+    kept: &Option<KeptGaps>,
     plugins: &mut [Heard<P>],
     items: &[PluginItem],
     closed: Closed,
 ) -> Result<Judged, AllocError>
+    requires valid { IsValidGeneral general.now }
     requires numbers { length plugins.old < 2 ^ 62 }
     requires reach { ReachesCut (HeardStands P.rule P.stands_for) plugins.old closed.cut 0 }
     ensures { (tables : List (List (List ℕ))) (input : StageList)
         → map (by_plugin P.rule) plugins.old ≡ rules_of (named_rules items.now tables)
         → AllMetTo (HeardStands P.rule P.stands_for) (map (by_plugin P.rule) plugins.old) input closed.cut 0 plugins.old
         → IfOk result (λ judged.
-        (judged.faulty ≡ faults_from (rules_of (named_rules items.now tables)) input closed.cut 0 (named_rules items.now tables))
-        × (string_bytes judged.text ≡ reports_asked general.now (named_rules items.now tables) input closed.cut closed.cause)) }
+        (judged.faulty ≡ (input_faulty (stuffing_of general.now) (kept_out kept.now) closed.cut closed.cause
+        || faults_from (rules_of (named_rules items.now tables)) input closed.cut 0 (named_rules items.now tables)))
+        × (string_bytes judged.text ≡ input_printed general.now.bare (stuffing_of general.now) (kept_out kept.now) closed.cut closed.cause
+        ++ reports_asked general.now (named_rules items.now tables) input closed.cut closed.cause)
+        × KnowsAll (stuffing_of general.now) kept.now closed.cut closed.cause) }
 {
     let mut text = String::new(alloc);
-    let faulty = push_reports(&mut text, general.bare, plugins, items, 0, closed.cut)?;
+    let input_faulty = push_input(alloc, &mut text, general, kept, closed)?;
+    let plugin_faulty = push_reports(&mut text, general.bare, plugins, items, 0, closed.cut)?;
+    let faulty = either(input_faulty, plugin_faulty);
     let last = last_text(alloc, general.bare, closed)?;
     text.push_str(last.as_str())?;
     Ok(Judged { text, faulty })
@@ -76,22 +87,26 @@ pub(crate) fn report_run<P: Plugin, D: Desk>(
     alloc: Global,
     desk: &mut D,
     general: &GeneralConf,
+    kept: &Option<KeptGaps>,
     plugins: &mut [Heard<P>],
     items: &[PluginItem],
     closed: Closed,
     closing_failed: bool,
     notes: &mut PluginNotes,
 ) -> Status
+    requires valid { IsValidGeneral general.now }
     requires numbers { length plugins.old < 2 ^ 62 }
     requires reach { ReachesCut (HeardStands P.rule P.stands_for) plugins.old closed.cut 0 }
     ensures { (tables : List (List (List ℕ))) (input : StageList)
         → map (by_plugin P.rule) plugins.old ≡ rules_of (named_rules items.now tables)
         → AllMetTo (HeardStands P.rule P.stands_for) (map (by_plugin P.rule) plugins.old) input closed.cut 0 plugins.old
-        → ReportsRun general.now (reports_asked general.now (named_rules items.now tables) input closed.cut closed.cause)
-        (faults_from (rules_of (named_rules items.now tables)) input closed.cut 0 (named_rules items.now tables))
-        closed.cause closing_failed (D.seen desk.old) (D.seen desk.new) result }
+        → ReportsRun general.now (input_printed general.now.bare (stuffing_of general.now) (kept_out kept.now) closed.cut closed.cause
+        ++ reports_asked general.now (named_rules items.now tables) input closed.cut closed.cause)
+        (input_faulty (stuffing_of general.now) (kept_out kept.now) closed.cut closed.cause
+        || faults_from (rules_of (named_rules items.now tables)) input closed.cut 0 (named_rules items.now tables))
+        (KnowsAll (stuffing_of general.now) kept.now closed.cut closed.cause) closed.cause closing_failed (D.seen desk.old) (D.seen desk.new) result }
 {
-    match report_text(alloc, general, plugins, items, closed) {
+    match report_text(alloc, general, kept, plugins, items, closed) {
         Ok(Judged { text, faulty }) => {
             let failed = say(desk, text.as_str());
             notes.note_end(general.bare, failed, closed);

@@ -20,6 +20,9 @@ run_in_threads-end-requires-clause-fresh g c κs within = c.in-Ok.ensures.2.read
 pub finish-requires-clause-reach : goal.finish-requires-clause-reach
 finish-requires-clause-reach g c κs within = called-reach _ _ _ _ _ _ _ _ _ _ _ _ _ _ _ c.in-Ok.ensures c.run_in_threads-end.ensures
 
+pub finish-requires-clause-valid : goal.finish-requires-clause-valid
+finish-requires-clause-valid g c κs within = c.requires.valid.general
+
 pub finish-requires-clause-few : goal.finish-requires-clause-few
 finish-requires-clause-few g c κs within = called-few _ _ _ _ _ _ _ _ _ _ _ _ _ _ _ c.in-Ok.ensures c.run_in_threads-end.ensures
 

@@ -20,6 +20,9 @@ run_printing-run-requires-clause-fresh g c κs within = c.in-Ok.ensures.2.ready.
 pub finish_live-requires-clause-reach : goal.finish_live-requires-clause-reach
 finish_live-requires-clause-reach g c κs within = live-reach _ _ _ _ _ _ _ _ _ _ _ _ _ _ _ _ _ c.in-Ok.ensures c.run_printing-run.ensures
 
+pub finish_live-requires-clause-valid : goal.finish_live-requires-clause-valid
+finish_live-requires-clause-valid g c κs within = c.requires.valid.general
+
 pub finish_live-requires-clause-few : goal.finish_live-requires-clause-few
 finish_live-requires-clause-few g c κs within = live-few _ _ _ _ _ _ _ _ _ _ _ _ _ _ _ _ _ c.in-Ok.ensures c.run_printing-run.ensures
 

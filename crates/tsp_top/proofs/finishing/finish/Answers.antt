@@ -1,11 +1,12 @@
-use Rattle.std.proofs.Common.{is_err, ap, map, List, ◌∙◌, sym, refl, inl, inr}
+use Rattle.std.proofs.Common.{is_err, ap, map, List, ◌∙◌, ◌++◌, ◌||◌, sym, refl, inl, inr}
 use Rattle.plugin_set.specs.declared.plugin_item.PluginItem.{PluginItem}
 use Rattle.chain_model.specs.Reports.{rules_of}
 use Rattle.ts_outside.specs.Desk.{DeskView}
 use Rattle.tsp_top.specs.ByPlugin.{by_plugin}
-use Rattle.tsp_top.specs.PlannedChain.{named_rules}
+use Rattle.tsp_top.specs.LeftOut.{input_faulty, kept_out}
+use Rattle.tsp_top.specs.PlannedChain.{named_rules, stuffing_of}
 use Rattle.tsp_top.specs.Faults.{faults_from}
-use Rattle.tsp_top.specs.Printed.{reports_asked}
+use Rattle.tsp_top.specs.Printed.{input_printed, reports_asked}
 use Rattle.tsp_top.specs.Openings.{output_closed_as}
 use Rattle.tsp_top.specs.Ran.{chain_over}
 use Rattle.tsp_top.proofs.EndLemmas.{asked-plain}
@@ -24,19 +25,22 @@ returns-in-Ok g c = λ tables stuffing numbers from plugins to rules ends.
       made_to = c.args.end.output;
       failed = is_err c.close_output-closing.result;
       failed_opened = on-true-is_err c.close_output-closing.result _ c.close_output-closing.ensures.failed;
-      through = c.close_input.ensures.through;
+      kept = c.close_input-kept.result;
+      through = c.close_input-kept.ensures.through;
       ends = inl (
         c.in-Ok.closed,
         record {
           made = c.args.end.plugins.items;
           run = run;
-          reported = asked-plain c.args.plan.now.general (chain_over c.args.plan.now tables run.list) c.in-Ok.closed.cut c.in-Ok.closed.cause _ _ (is_err c.close_output-closing.result) _ _ _ c.requires.plain
-              (reports-run-same c.args.plan.now.general _ _ _ _ c.in-Ok.closed.cause c.is_err.result (is_err c.close_output-closing.result) (g.D.Desk.seen c.close_output-closing.new.desk) _ _ _
-              (ap (λ (items : List PluginItem). reports_asked c.args.plan.now.general (named_rules items tables) run.list c.in-Ok.closed.cut c.in-Ok.closed.cause) c.as_slice.ensures)
-              (ap (λ (items : List PluginItem). faults_from (rules_of (named_rules items tables)) run.list c.in-Ok.closed.cut 0 (named_rules items tables)) c.as_slice.ensures)
+          reported = asked-plain c.args.plan.now.general (kept_out c.close_input-kept.result) (chain_over c.args.plan.now tables run.list) c.in-Ok.closed.cut c.in-Ok.closed.cause _ _ _ (is_err c.close_output-closing.result) _ _ _ c.requires.plain
+              (reports-run-same c.args.plan.now.general _ _ _ _ _ c.in-Ok.closed.cause c.is_err.result (is_err c.close_output-closing.result) (g.D.Desk.seen c.close_output-closing.new.desk) _ _ _
+              (ap (λ (items : List PluginItem). input_printed c.args.plan.now.general.bare (stuffing_of c.args.plan.now.general) (kept_out c.close_input-kept.result) c.in-Ok.closed.cut c.in-Ok.closed.cause
+              ++ reports_asked c.args.plan.now.general (named_rules items tables) run.list c.in-Ok.closed.cut c.in-Ok.closed.cause) c.as_slice.ensures)
+              (ap (λ (items : List PluginItem). input_faulty (stuffing_of c.args.plan.now.general) (kept_out c.close_input-kept.result) c.in-Ok.closed.cut c.in-Ok.closed.cause
+              || faults_from (rules_of (named_rules items tables)) run.list c.in-Ok.closed.cut 0 (named_rules items tables)) c.as_slice.ensures)
               c.is_err.ensures.value
               (c.close_output-closing.ensures.closed
-              ∙ ap (λ (d : DeskView). output_closed_as g.D.Out.Sink.seen d c.args.end.output (is_err c.close_output-closing.result)) c.close_input.ensures.closed)
+              ∙ ap (λ (d : DeskView). output_closed_as g.D.Out.Sink.seen d c.args.end.output (is_err c.close_output-closing.result)) c.close_input-kept.ensures.closed)
               (c.report_run-status.ensures tables run.list
               (ap (λ (l : List _). map (by_plugin g.P.Plugin.rule) l) c.deref_mut.ensures.value ∙ rules ∙ ap (λ (items : List PluginItem). rules_of (named_rules items tables)) (sym c.as_slice.ensures))
               (rw c.deref_mut.ensures.value (run-met _ _ from c.args.end.input stuffing plugins c.args.end.plugins.items to c.args.end.output numbers c.in-Ok.closed run))));
@@ -52,12 +56,13 @@ returns g c = λ tables stuffing numbers from plugins to rules ends.
       made_to = c.args.end.output;
       failed = is_err c.close_output-closing.result;
       failed_opened = on-true-is_err c.close_output-closing.result _ c.close_output-closing.ensures.failed;
-      through = c.close_input.ensures.through;
+      kept = c.close_input-kept.result;
+      through = c.close_input-kept.ensures.through;
       ends = inr (record {
         status_is = refl;
         input_same = none.input;
         output_same = none.output;
         desk = c.close_output-closing.ensures.closed
-            ∙ ap (λ (d : DeskView). output_closed_as g.D.Out.Sink.seen d c.args.end.output (is_err c.close_output-closing.result)) c.close_input.ensures.closed;
+            ∙ ap (λ (d : DeskView). output_closed_as g.D.Out.Sink.seen d c.args.end.output (is_err c.close_output-closing.result)) c.close_input-kept.ensures.closed;
       });
     }

@@ -1,11 +1,12 @@
-use Rattle.std.proofs.Common.{is_err, ap, map, List, ◌∙◌, refl, inl, inr}
+use Rattle.std.proofs.Common.{is_err, ap, map, List, ◌∙◌, ◌||◌, refl, inl, inr}
 use Rattle.chain_model.specs.Reports.{rules_of}
 use Rattle.chain_live.specs.LiveReports.{lines_below}
 use Rattle.ts_outside.specs.Desk.{DeskView}
 use Rattle.tsp_top.specs.ByPlugin.{by_plugin}
 use Rattle.tsp_top.specs.Faults.{faults_from}
 use Rattle.tsp_top.specs.Openings.{output_closed_as}
-use Rattle.tsp_top.specs.PlannedChain.{named_rules}
+use Rattle.tsp_top.specs.PlannedChain.{named_rules, stuffing_of}
+use Rattle.tsp_top.specs.LeftOut.{input_faulty, kept_out}
 use Rattle.tsp_top.specs.Printed.{reported_as}
 use Rattle.tsp_top.specs.Ran.{chain_over}
 use Rattle.tsp_top.proofs.EndLemmas.{closed-live, closed-silent}
@@ -23,25 +24,28 @@ returns-in-Ok g c = λ tables stuffing numbers from plugins to opened own rules 
     let general = c.args.plan.now.general in
     let ran = if-ok end.closed c.in-Ok.closed _ c.in-Ok.is (ends.run tables own) in
     let chain = chain_over c.args.plan.now tables ran.run.list in
-    let faulty = faults_from (rules_of (named_rules c.args.plan.now.plugins tables)) ran.run.list c.in-Ok.closed.cut 0 (named_rules c.args.plan.now.plugins tables) in
+    let out = kept_out c.close_input-kept.result in
+    let faulty = input_faulty (stuffing_of general) out c.in-Ok.closed.cut c.in-Ok.closed.cause
+    || faults_from (rules_of (named_rules c.args.plan.now.plugins tables)) ran.run.list c.in-Ok.closed.cut 0 (named_rules c.args.plan.now.plugins tables) in
     record {
       made_from = end.input;
       made_to = end.output;
       failed = closing;
       failed_opened = on-true-is_err c.close_output-closing.result _ c.close_output-closing.ensures.failed;
-      through = c.close_input.ensures.through;
+      kept = c.close_input-kept.result;
+      through = c.close_input-kept.ensures.through;
       ends = inl (
         c.in-Ok.closed,
         record {
           made = end.plugins.items;
           run = ran.run;
           reported = closed-live _ _ end.input end.output closing c.is_err.result general
-              (reported_as general chain c.in-Ok.closed.cut c.in-Ok.closed.cause) (lines_below chain c.in-Ok.closed.cut) faulty c.in-Ok.closed.cause
+              (reported_as general out chain c.in-Ok.closed.cut c.in-Ok.closed.cause) (lines_below chain c.in-Ok.closed.cut) faulty _ c.in-Ok.closed.cause
               opened (g.D.Desk.seen c.args.desk.now) (g.D.Desk.seen c.close_output-closing.new.desk) (g.D.Desk.seen c.report_live-status.new.desk)
               c.args.run.printed.failed c.args.run.printed.whole c.report_live-status.result
               c.is_err.ensures.value
               (c.close_output-closing.ensures.closed
-              ∙ ap (λ (d : DeskView). output_closed_as g.D.Out.Sink.seen d end.output closing) c.close_input.ensures.closed)
+              ∙ ap (λ (d : DeskView). output_closed_as g.D.Out.Sink.seen d end.output closing) c.close_input-kept.ensures.closed)
               ran.printed
               (λ first printed. c.report_live-status.ensures tables ran.run.list first
               (ap (λ (l : List _). map (by_plugin g.P.Plugin.rule) l) c.deref_mut.ensures.value ∙ rules)
@@ -61,14 +65,15 @@ returns g c = λ tables stuffing numbers from plugins to opened own rules ends.
       made_to = end.output;
       failed = is_err c.close_output-closing.result;
       failed_opened = on-true-is_err c.close_output-closing.result _ c.close_output-closing.ensures.failed;
-      through = c.close_input.ensures.through;
+      kept = c.close_input-kept.result;
+      through = c.close_input-kept.ensures.through;
       ends = inr (record {
         status_is = refl;
         input_same = none.input;
         output_same = none.output;
         desk = closed-silent _ _ end.input end.output (is_err c.close_output-closing.result) _ _ _
             (c.close_output-closing.ensures.closed
-            ∙ ap (λ (d : DeskView). output_closed_as g.D.Out.Sink.seen d end.output (is_err c.close_output-closing.result)) c.close_input.ensures.closed)
+            ∙ ap (λ (d : DeskView). output_closed_as g.D.Out.Sink.seen d end.output (is_err c.close_output-closing.result)) c.close_input-kept.ensures.closed)
             silent;
       });
     }

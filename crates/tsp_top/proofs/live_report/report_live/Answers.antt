@@ -1,4 +1,4 @@
-use Rattle.std.proofs.Common.{Bool, true, false, not, ◌≡◌, ◌++◌, ℕ, List, [], map, inl, inr, refl, ap, sym, subst, ◌∙◌, if◌then◌else◌}
+use Rattle.std.proofs.Common.{Bool, true, false, not, ◌≡◌, ◌++◌, ◌||◌, ℕ, List, [], map, inl, inr, refl, ap, sym, subst, ◌∙◌, if◌then◌else◌}
 use Rattle.chain_model.specs.PluginRule.{PluginRule}
 use Rattle.chain_model.specs.Reports.{end_line, rules_of}
 use Rattle.chain_live.specs.LiveReports.{LiveLine, lines_below}
@@ -8,8 +8,9 @@ use Rattle.ts_outside.specs.Saying.{Says}
 use Rattle.tsp_top.specs.ByPlugin.{by_plugin}
 use Rattle.tsp_top.specs.Faults.{faults_from}
 use Rattle.tsp_top.specs.LiveEnds.{plugin_stands}
-use Rattle.tsp_top.specs.PlannedChain.{named_rules}
-use Rattle.tsp_top.specs.Printed.{live_text, summaries_printed}
+use Rattle.tsp_top.specs.PlannedChain.{named_rules, stuffing_of}
+use Rattle.tsp_top.specs.LeftOut.{input_faulty, kept_out}
+use Rattle.tsp_top.specs.Printed.{input_printed, live_text, summaries_printed}
 use Rattle.tsp_top.specs.Ran.{chain_over}
 use Rattle.tsp_top.proofs.EndLemmas.{live-report, stands-live}
 use Rattle.tsp_top.proofs.ReportLemmas.{status-same}
@@ -39,19 +40,22 @@ returns-in-Ok g c = λ tables input first same met printed.
     same ∙ sym (ap (λ (items : List PluginItem). rules_of (named_rules items tables)) c.as_slice-items.ensures) in
     let judged = c.in-Ok.ensures tables own input same_items met_own in
     let lines : List LiveLine = lines_below chain cut in
-    let rest : List ℕ = summaries_printed general.bare own input cut 0 (named_rules c.args.plan.now.plugins tables) ++ (if general.bare then [] else end_line c.args.closed.cause cut) in
+    let out = kept_out c.args.kept.now in
+    let front : List ℕ = input_printed general.bare (stuffing_of general) out cut c.args.closed.cause in
+    let rest : List ℕ = front ++ (summaries_printed general.bare own input cut 0 (named_rules c.args.plan.now.plugins tables) ++ (if general.bare then [] else end_line c.args.closed.cause cut)) in
     let said : Says first (g.D.Desk.seen c.args.desk.now) (live_text general.bare lines) c.args.printed.failed =
     subst (λ (l : List LiveLine). Says first (g.D.Desk.seen c.args.desk.now) (live_text general.bare l) c.args.printed.failed) (printed.all (is-whole c.args.printed.whole c.if-not-printed.false)) printed.said in
     let text : c.as_str.result.now ≡ rest =
     c.as_str.ensures.value
-    ∙ (judged.1 ∙ ap (λ (items : List PluginItem). summaries_printed general.bare own input cut 0 (named_rules items tables) ++ (if general.bare then [] else end_line c.args.closed.cause cut)) c.as_slice-items.ensures) in
+    ∙ (judged.1 ∙ ap (λ (items : List PluginItem). front ++ (summaries_printed general.bare own input cut 0 (named_rules items tables) ++ (if general.bare then [] else end_line c.args.closed.cause cut))) c.as_slice-items.ensures) in
     inl (
       c.say_on.new.failed,
       subst (λ (t : List ℕ). Says first (g.D.Desk.seen c.say_on.new.desk) t c.say_on.new.failed)
-          (ap (λ (t : List ℕ). live_text general.bare lines ++ t) text ∙ live-report general chain cut c.args.closed.cause c.requires.live)
+          (ap (λ (t : List ℕ). live_text general.bare lines ++ t) text ∙ live-report general out chain cut c.args.closed.cause c.requires.live)
           (c.say_on.ensures first (live_text general.bare lines) said),
       status-same general _ _ c.args.closed.cause c.one_failed-late.result _ _ c.status_of_run.ensures
-          (judged.0 ∙ ap (λ (items : List PluginItem). faults_from own input cut 0 (named_rules items tables)) c.as_slice-items.ensures) c.one_failed-late.ensures,
+          (judged.0 ∙ ap (λ (items : List PluginItem). input_faulty (stuffing_of general) out cut c.args.closed.cause || faults_from own input cut 0 (named_rules items tables)) c.as_slice-items.ensures) c.one_failed-late.ensures,
+      judged.2,
     )
 
 pub returns-in-Err : goal.returns-in-Err
