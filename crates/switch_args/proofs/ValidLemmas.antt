@@ -1,6 +1,6 @@
 -- Lemmas: what is read is valid.
 use Rattle.std.proofs.Common.{◌≡◌, ℕ, ◌+◌, ◌<◌, ◌≤◌, ◌⊎◌, inl, inr, List, [], ◌∷◌, ◌++◌, length, Option, None, Some, Bool, true, false, refl, ap, ◌∙◌, subst, arith}
-use Rattle.std.specs.Prelude.{option_and_then, codes, ◌&&◌, nat_lt, IfSome, IfOk, is_none, Result, Ok, Err}
+use Rattle.std.specs.Prelude.{option_and_then, codes, ◌&&◌, not, nat_lt, IfSome, IfOk, is_none, Result, Ok, Err}
 use Rattle.std.specs.Str.{bytes_eq}
 use Rattle.std.specs.List.{list_all}
 use Rattle.std.proofs.lemmas.Bool.{ltb-true}
@@ -76,14 +76,18 @@ number-step least most word at q e = by-number (number_within least most word) r
 step-valid : (g : Given) (e : Expected) (word : List ℕ) (q : Place) → IsValidTo (place g e) → step g e word ≡ Some q → IsValidTo q
 step-valid g an_option_or_input word q l is =
     let first = if_so (bytes_eq word (codes "-I")) (place g the_input_kind) None in
-    let buffer = if_so (bytes_eq word (codes "--buffer-packets") && is_none g.buffer) (place g the_buffer) first in
+    let flag = if_so (bytes_eq word (codes "--resync") && not g.resync) (place (record g { resync = true }) an_option_or_input) first in
+    let buffer = if_so (bytes_eq word (codes "--buffer-packets") && is_none g.buffer) (place g the_buffer) flag in
     elim (so (bytes_eq word (codes "--cycle") && is_none g.cycle) (place g the_cycle) buffer q is) [
       | inl s ↦ subst IsValidTo s.1 (record { cycle = l.cycle; buffer = l.buffer; counts = l.counts; names = l.names; output = l.output })
-      | inr more ↦ elim (so (bytes_eq word (codes "--buffer-packets") && is_none g.buffer) (place g the_buffer) first q more) [
+      | inr more ↦ elim (so (bytes_eq word (codes "--buffer-packets") && is_none g.buffer) (place g the_buffer) flag q more) [
         | inl s ↦ subst IsValidTo s.1 (record { cycle = l.cycle; buffer = l.buffer; counts = l.counts; names = l.names; output = l.output })
-        | inr more ↦ elim (so (bytes_eq word (codes "-I")) (place g the_input_kind) None q more) [
-          | inl s ↦ subst IsValidTo s.1 (record { cycle = l.cycle; buffer = l.buffer; counts = (let n = l.counts in omega (arith, n)); names = l.names; output = l.output })
-          | inr bad ↦ absurd (never bad)
+        | inr more ↦ elim (so (bytes_eq word (codes "--resync") && not g.resync) (place (record g { resync = true }) an_option_or_input) first q more) [
+          | inl s ↦ subst IsValidTo s.1 (record { cycle = l.cycle; buffer = l.buffer; counts = l.counts; names = l.names; output = l.output })
+          | inr more ↦ elim (so (bytes_eq word (codes "-I")) (place g the_input_kind) None q more) [
+            | inl s ↦ subst IsValidTo s.1 (record { cycle = l.cycle; buffer = l.buffer; counts = (let n = l.counts in omega (arith, n)); names = l.names; output = l.output })
+            | inr bad ↦ absurd (never bad)
+          ]
         ]
       ]
     ]
@@ -139,9 +143,12 @@ after-valid p (word ∷ words) q l is = by-step (λ r s. after-valid r words q (
     by-step law None s e = absurd (never e)
     by-step law (Some r) s e = law r s e
 
+given-is : (a b : Given) → Some a ≡ Some b → a ≡ b
+given-is a b e = (let f = e in cc)
+
 end-valid : (g : Given) (e : Expected) (given : Given) → IsValidTo (place g e) → may_end (place g e) ≡ Some given → IsValid given
-end-valid g an_input_or_output given l is = subst IsValid (let f = is in cc) (record { cycle = l.cycle; buffer = l.buffer; some = l.counts.0; few = l.counts.1; names = l.names; output = l.output })
-end-valid g nothing given l is = subst IsValid (let f = is in cc) (record { cycle = l.cycle; buffer = l.buffer; some = l.counts.0; few = l.counts.1; names = l.names; output = l.output })
+end-valid g an_input_or_output given l is = subst IsValid (given-is g given is) (record { cycle = l.cycle; buffer = l.buffer; some = l.counts.0; few = l.counts.1; names = l.names; output = l.output })
+end-valid g nothing given l is = subst IsValid (given-is g given is) (record { cycle = l.cycle; buffer = l.buffer; some = l.counts.0; few = l.counts.1; names = l.names; output = l.output })
 end-valid g an_option_or_input given l is = absurd (let bad : None ≡ Some given = is in cc)
 end-valid g the_cycle given l is = absurd (let bad : None ≡ Some given = is in cc)
 end-valid g the_buffer given l is = absurd (let bad : None ≡ Some given = is in cc)

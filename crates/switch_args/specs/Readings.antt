@@ -29,7 +29,7 @@ output_of out.Drop = dropped
 
 -- what the words read so far gave
 abbrev pub given_of : Reading → Given
-given_of r = record { cycle = r.cycle; buffer = r.buffer; inputs = r.inputs.items; output = output_of r.output }
+given_of r = record { cycle = r.cycle; buffer = r.buffer; resync = r.resync; inputs = r.inputs.items; output = output_of r.output }
 
 -- the word may be there, and the new reading is what is given and expected after it; or it may not
 abbrev pub Went : Reading → List ℕ → Bool → Reading → Type 0
@@ -38,7 +38,7 @@ Went old word false new = step (given_of old) (expected_of old.expected) word �
 
 -- what settings stand for
 abbrev pub given_of_settings : SwitchSettings → Given
-given_of_settings w = record { cycle = w.cycle; buffer = w.buffer; inputs = w.inputs.items; output = output_of w.output }
+given_of_settings w = record { cycle = w.cycle; buffer = w.buffer; resync = w.resync; inputs = w.inputs.items; output = output_of w.output }
 
 -- at the end of the words: they are complete, or not
 abbrev pub EndsAt : Reading → ℕ → Result SwitchSettings WordsFault → Type 0

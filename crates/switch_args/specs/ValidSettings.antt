@@ -1,5 +1,5 @@
 -- Valid settings of `tsswitch`, and the words that give them. This project's own rule.
-use Rattle.std.specs.Prelude.{◌≡◌, ℕ, ◌≤◌, List, [], ◌∷◌, ◌++◌, length, codes, true, Option, None, Some, IfSome}
+use Rattle.std.specs.Prelude.{◌≡◌, ℕ, ◌≤◌, List, [], ◌∷◌, ◌++◌, length, codes, Bool, true, if◌then◌else◌, Option, None, Some, IfSome}
 use Rattle.std.specs.Fmt.{decimal}
 use Rattle.std.specs.List.{list_all}
 use Rattle.switch_args.specs.SwitchWords.{Given, Output, to_file, dropped, is_name}
@@ -24,6 +24,10 @@ abbrev pub number_words : List ℕ → Option ℕ → List (List ℕ)
 number_words name None = []
 number_words name (Some n) = name ∷ decimal n ∷ []
 
+-- a flag, if it is given
+abbrev pub flag_words : List ℕ → Bool → List (List ℕ)
+flag_words name given = if given then name ∷ [] else []
+
 -- the words of inputs
 abbrev pub input_words : List (List ℕ) → List (List ℕ)
 input_words [] = []
@@ -39,4 +43,5 @@ output_words dropped = codes "-O" ∷ codes "drop" ∷ []
 abbrev pub words_of : Given → List (List ℕ)
 words_of given =
     number_words (codes "--cycle") given.cycle
-    ++ (number_words (codes "--buffer-packets") given.buffer ++ (input_words given.inputs ++ output_words given.output))
+    ++ (number_words (codes "--buffer-packets") given.buffer
+    ++ (flag_words (codes "--resync") given.resync ++ (input_words given.inputs ++ output_words given.output)))

@@ -29,6 +29,7 @@ pub(crate) enum Expected {
 pub(crate) struct Reading {
     pub(crate) cycle: Option<u64>,
     pub(crate) buffer: Option<u64>,
+    pub(crate) resync: bool,
     pub(crate) inputs: Vec<NameText>,
     pub(crate) output: SwitchOutput,
     pub(crate) expected: Expected,
@@ -53,6 +54,7 @@ impl Reading {
         Reading {
             cycle: None,
             buffer: None,
+            resync: false,
             inputs: Vec::new(alloc),
             output: SwitchOutput::File(NameText::of(String::new(alloc))),
             expected: Expected::OptionOrInput,
@@ -83,6 +85,7 @@ impl Reading {
         let Reading {
             cycle,
             buffer,
+            resync,
             inputs,
             output,
             expected: _,
@@ -90,6 +93,7 @@ impl Reading {
         SwitchSettings {
             cycle,
             buffer,
+            resync,
             inputs,
             output,
         }
@@ -123,6 +127,10 @@ impl Reading {
         }
         if word == "--buffer-packets" && self.buffer.is_none() {
             self.expected = Expected::Buffer;
+            return true;
+        }
+        if word == "--resync" && !self.resync {
+            self.resync = true;
             return true;
         }
         if word == "-I" {

@@ -17,6 +17,8 @@ pub struct SwitchSettings {
     pub cycle: Option<u64>,
     /// How many packets a ring has, 1 to 1,000,000. If it is not given the program chooses.
     pub buffer: Option<u64>,
+    /// Whether the packets of each input are found again in bytes with damage.
+    pub resync: bool,
     /// The names of the inputs, 1 to 32, in the order in which they are played.
     pub inputs: Vec<NameText>,
     /// The output.

@@ -18,8 +18,8 @@ pub enum WordsFault {
     NoMemory,
 }
 
-/// Reads the words, given without the program's name: `--cycle N` and `--buffer-packets N` in any order, each at most
-/// once; then `-I file NAME`, once for each of 1 to 32 inputs; and at most once `-O file NAME` or `-O drop`.
+/// Reads the words, given without the program's name: `--cycle N`, `--buffer-packets N` and `--resync` in any order, each
+/// at most once; then `-I file NAME`, once for each of 1 to 32 inputs; and at most once `-O file NAME` or `-O drop`.
 pub fn read_words(alloc: Global, words: &[String]) -> Result<SwitchSettings, WordsFault>
     ensures read { ReadsWords (map string_bytes words.now) result }
     ensures valid { IfOk result (λ settings. IsValid (given_of_settings settings)) }

@@ -1,6 +1,6 @@
 -- What follows from a call whose plays were played, in the words of the switched list.
 use Rattle.std.proofs.Common.{◌≡◌, ℕ, zero, suc, ◌+◌, List, [], ◌∷◌, ◌++◌, length, take, drop, Bool, true, false, Option, Some, refl, ap, sym, ◌∙◌, subst, arith, inl, inr, append-nil, append_assoc}
-use Rattle.std.specs.Prelude.{if◌then◌else◌, ◌||◌, ◌⊎◌, ◌<◌, ◌≤◌, ◌-◌, ◌^◌, min, IfSome}
+use Rattle.std.specs.Prelude.{if◌then◌else◌, ◌||◌, ◌⊎◌, ◌≤◌, ◌-◌, ◌^◌, min}
 use Rattle.std.proofs.lemmas.List.{take_all}
 use Rattle.ts_outside.specs.Source.{SourceView}
 use Rattle.ts_outside.specs.Told.{grown}
@@ -15,21 +15,23 @@ use Rattle.ts_packet.specs.declared.cell.Cell.{Cell}
 use Rattle.ts_packet.specs.Cells.{Live, Dropped}
 use Rattle.chain_model.specs.declared.input_end.InputEnd.{InputEnd}
 use Rattle.chain_model.specs.declared.input_end.InputEnd.TheVariants as how
-use Rattle.chain_model.specs.Apply.{input_over}
+use Rattle.chain_model.specs.Apply.{StageList, input_over}
 use Rattle.chain_model.specs.Written.{written, cell_bytes, IsPartOfFirst}
 use Rattle.chain_plays.specs.declared.played.PlayEnd.{PlayEnd}
 use Rattle.chain_plays.specs.declared.played.PlayEnd.TheVariants.{Input, WriteFault}
-use Rattle.chain_plays.specs.PlayList.{play_of, cause_of, GivesAll, EndsAs}
+use Rattle.chain_plays.specs.PlayList.{cause_of, GivesAll, EndsAs}
 use Rattle.switch_top.specs.declared.status.SwitchStatus.{SwitchStatus}
 use Rattle.switch_top.specs.declared.status.SwitchStatus.TheVariants as status
 use Rattle.switch_top.specs.PlayNames.{PlayName}
+use Rattle.switch_top.specs.PlayLists.{list_of, IsListOf}
 use Rattle.switch_top.specs.Lines.{play_line, switch_end_line}
 use Rattle.switch_top.specs.Switched.{PlayList, lists_of, played, switched, end_of_list, line_of, switched_report, is_plain, last_of}
-use Rattle.switch_top.specs.PlaysAfter.{names_of, cells_of, lines_of, sources_of, all_asked, asked_of, with_inputs, LastRead, AsksNext}
+use Rattle.switch_top.specs.PlaysAfter.{names_of, cells_of, lines_of, sources_of, all_asked, opened_source, asked_of, with_inputs, LastRead, AsksNext}
 use Rattle.switch_top.specs.SwitchEnds.{status_of, when_late, IsPart, SwitchRan, SwitchWanted}
 use Rattle.switch_top.specs.SwitchTheorem.{IsPureSwitch, WritesSwitched, WritesFirst, TellsWhole, NothingLate, status_of_plays, ReadFailed}
 use Rattle.switch_top.proofs.SwitchLemmas.{flat-append, length-append}
-use Rattle.switch_top.proofs.SwitchedLaws.{all-cells, last-on, bytes-told, behind-on, behind-cells, behind-lines, behind-played, report-of}
+use Rattle.switch_top.proofs.PlayListLemmas.{read-fault}
+use Rattle.switch_top.proofs.SwitchedLaws.{all-cells, last-on, list-told, behind-on, behind-cells, behind-lines, behind-played, report-of}
 
 -- ---- bytes
 
@@ -144,90 +146,90 @@ or-true false b e = inr e
 or-true true b e = inl refl
 
 -- the end gives the whole list where it is the list's own
-gives-own : (bytes : List ℕ) (n : ℕ) (end : PlayEnd) → EndsAs (play_of bytes) n end → IsOwn end → (own : InputEnd) × (end ≡ Input own) × GivesAll (play_of bytes) n own
-gives-own bytes n (Input (how.End left)) ends own = (how.End left, refl, ends)
-gives-own bytes n (Input (how.Sync packet)) ends own = (how.Sync packet, refl, ends)
-gives-own bytes n (Input how.ReadFault) ends own = absurd own
-gives-own bytes n (Input how.TooLong) ends own = (how.TooLong, refl, ends)
-gives-own bytes n WriteFault ends own = absurd own
+gives-own : (list : StageList) (n : ℕ) (end : PlayEnd) → EndsAs list n end → IsOwn end → (own : InputEnd) × (end ≡ Input own) × GivesAll list n own
+gives-own list n (Input (how.End left)) ends own = (how.End left, refl, ends)
+gives-own list n (Input (how.Sync packet)) ends own = (how.Sync packet, refl, ends)
+gives-own list n (Input how.ReadFault) ends own = absurd own
+gives-own list n (Input how.TooLong) ends own = (how.TooLong, refl, ends)
+gives-own list n WriteFault ends own = absurd own
 
 -- at most one source was closed after that of the last play
-pub one-more : (start : DeskView) (later : List PlayName) (ahead : List Asked) (more : List SourceView) → AsksNext start later ahead more → length more ≤ 1
-one-more start later ahead more (inl a) = (let l = ap (λ (x : List SourceView). length x) a.2 in omega (arith, l))
-one-more start later ahead more (inr a) = elim a.3 [
+pub one-more : (resync : Bool) (start : DeskView) (later : List PlayName) (ahead : List Asked) (more : List SourceView) → AsksNext resync start later ahead more → length more ≤ 1
+one-more resync start later ahead more (inl a) = (let l = ap (λ (x : List SourceView). length x) a.2 in omega (arith, l))
+one-more resync start later ahead more (inr a) = elim a.3 [
   | inl n ↦ (let l = ap (λ (x : List SourceView). length x) n.1 in omega (arith, l))
   | inr n ↦ (let l = ap (λ (x : List SourceView). length x) n.2 in omega (arith, l))
 ]
 
 -- ---- the plays were played
 
-module _ (buffer : ℕ) (names : List PlayName) (output : Option (List ℕ)) (start new : DeskView) (answer : SwitchStatus) (r : SwitchRan buffer names output start new answer) where
+module _ (resync : Bool) (buffer : ℕ) (names : List PlayName) (output : Option (List ℕ)) (start new : DeskView) (answer : SwitchStatus) (r : SwitchRan resync buffer names output start new answer) where
   module _ (files : List (List ℕ × List ℕ)) (told : start.files ≡ Some files) where
-    last-is : r.bytes ≡ file_of files r.name
-    last-is = bytes-told start files told r.bytes r.name r.told
+    last-is : r.list ≡ list_of resync (file_of files r.name)
+    last-is = list-told resync start files told r.name r.list r.list_is
 
     abbrev last : PlayList
-    last = record { input = r.input; list = play_of (file_of files r.name) }
+    last = record { input = r.input; list = list_of resync (file_of files r.name) }
 
     -- whatever fault there was, the bytes begin those of the switched list
-    pub ran-first : WritesFirst (lists_of files names) output start new
+    pub ran-first : WritesFirst (lists_of resync files names) output start new
     ran-first =
-        let after = all-cells (if is_plain last.list.ended then played (lists_of files r.later) else []) in
-        let split : switched (lists_of files names) ≡ cells_of r.behind ++ ((play_of r.bytes).cells ++ after) =
-        ap (λ n. switched (lists_of files n)) r.names_are
-        ∙ behind-played start files told r.behind (record { input = r.input; name = r.name } ∷ r.later) r.all
-        ∙ ap (λ z. cells_of r.behind ++ ((play_of z).cells ++ after)) (sym last-is) in
-        let b = begins-all (cells_of r.behind) (play_of r.bytes).cells after r.n r.end r.part r.part_is in
-        inr (written (cells_of r.behind) ++ (written (take r.n (play_of r.bytes).cells) ++ r.part), b.0, r.written_is, ap written split ∙ b.1)
+        let after = all-cells (if is_plain last.list.ended then played (lists_of resync files r.later) else []) in
+        let split : switched (lists_of resync files names) ≡ cells_of r.behind ++ (r.list.cells ++ after) =
+        ap (λ n. switched (lists_of resync files n)) r.names_are
+        ∙ behind-played resync start files told r.behind (record { input = r.input; name = r.name } ∷ r.later) r.all
+        ∙ ap (λ (z : StageList). cells_of r.behind ++ (z.cells ++ after)) (sym last-is) in
+        let b = begins-all (cells_of r.behind) r.list.cells after r.n r.end r.part r.part_is in
+        inr (written (cells_of r.behind) ++ (written (take r.n r.list.cells) ++ r.part), b.0, r.written_is, ap written split ∙ b.1)
 
     -- where the last end is that of its list, they are all of them
-    module _ (own : InputEnd) (end_is : r.end ≡ Input own) (gives : GivesAll (play_of r.bytes) r.n own) where
+    module _ (own : InputEnd) (end_is : r.end ≡ Input own) (gives : GivesAll r.list r.n own) where
       ended : last.list.ended ≡ Some (input_over own)
-      ended = ap (λ z. (play_of z).ended) (sym last-is) ∙ gives.ended
+      ended = ap (λ (z : StageList). z.ended) (sym last-is) ∙ gives.ended
 
-      played-is : played (lists_of files names) ≡ lists_of files (names_of r.behind) ++ last ∷ []
+      played-is : played (lists_of resync files names) ≡ lists_of resync files (names_of r.behind) ++ last ∷ []
       played-is =
-          ap (λ n. played (lists_of files n)) r.names_are
-          ∙ behind-on start files told r.behind (record { input = r.input; name = r.name } ∷ r.later) r.all
-          ∙ ap (λ l. lists_of files (names_of r.behind) ++ l) (last-on last (lists_of files r.later) own ended (λ left e. ap (lists_of files) (r.plain_is_last left (end_is ∙ ap Input e))))
+          ap (λ n. played (lists_of resync files n)) r.names_are
+          ∙ behind-on resync start files told r.behind (record { input = r.input; name = r.name } ∷ r.later) r.all
+          ∙ ap (λ l. lists_of resync files (names_of r.behind) ++ l) (last-on last (lists_of resync files r.later) own ended (λ left e. ap (lists_of resync files) (r.plain_is_last left (end_is ∙ ap Input e))))
 
-      switched-is : switched (lists_of files names) ≡ cells_of r.behind ++ (play_of r.bytes).cells
+      switched-is : switched (lists_of resync files names) ≡ cells_of r.behind ++ r.list.cells
       switched-is =
           ap all-cells played-is
-          ∙ flat-append (λ (p : PlayList). p.list.cells) (lists_of files (names_of r.behind)) (last ∷ [])
-          ∙ ap (λ l. l ++ all-cells (last ∷ [])) (behind-cells start files told r.behind r.all)
+          ∙ flat-append (λ (p : PlayList). p.list.cells) (lists_of resync files (names_of r.behind)) (last ∷ [])
+          ∙ ap (λ l. l ++ all-cells (last ∷ [])) (behind-cells resync start files told r.behind r.all)
           ∙ ap (λ l. cells_of r.behind ++ l) (append-nil last.list.cells)
-          ∙ ap (λ z. cells_of r.behind ++ (play_of z).cells) (sym last-is)
+          ∙ ap (λ (z : StageList). cells_of r.behind ++ z.cells) (sym last-is)
 
-      whole-is : new.outputs ≡ outputs_with output start.outputs (written (switched (lists_of files names)))
+      whole-is : new.outputs ≡ outputs_with output start.outputs (written (switched (lists_of resync files names)))
       whole-is = r.written_is ∙ ap (outputs_with output start.outputs)
-          (ap (λ p. written (cells_of r.behind) ++ (written (take r.n (play_of r.bytes).cells) ++ p)) (subst (λ e. IsPart (play_of r.bytes).cells r.n e r.part) end_is r.part_is)
+          (ap (λ p. written (cells_of r.behind) ++ (written (take r.n r.list.cells) ++ p)) (subst (λ e. IsPart r.list.cells r.n e r.part) end_is r.part_is)
           ∙ ap (λ l. written (cells_of r.behind) ++ l) (append-nil _)
-          ∙ ap (λ l. written (cells_of r.behind) ++ written l) (take_all r.n (play_of r.bytes).cells (let g = gives.whole in omega (arith, g)))
-          ∙ sym (flat-append cell_bytes (cells_of r.behind) (play_of r.bytes).cells)
+          ∙ ap (λ l. written (cells_of r.behind) ++ written l) (take_all r.n r.list.cells (let g = gives.whole in omega (arith, g)))
+          ∙ sym (flat-append cell_bytes (cells_of r.behind) r.list.cells)
           ∙ ap written (sym switched-is))
 
-      count-is : length (switched (lists_of files names)) ≡ length (cells_of r.behind) + r.n
-      count-is = ap (λ l. length l) switched-is ∙ length-append (cells_of r.behind) (play_of r.bytes).cells ∙ ap (λ n. length (cells_of r.behind) + n) (sym gives.whole)
+      count-is : length (switched (lists_of resync files names)) ≡ length (cells_of r.behind) + r.n
+      count-is = ap (λ l. length l) switched-is ∙ length-append (cells_of r.behind) r.list.cells ∙ ap (λ n. length (cells_of r.behind) + n) (sym gives.whole)
 
       end-is : end_of_list last.list.ended ≡ r.end
       end-is = ap end_of_list ended ∙ sym end_is
 
-      report-is : switched_report (lists_of files names) ≡ lines_of r.behind ++ (play_line r.input r.n r.end ++ switch_end_line r.input r.end (length (cells_of r.behind) + r.n))
+      report-is : switched_report (lists_of resync files names) ≡ lines_of r.behind ++ (play_line r.input r.n r.end ++ switch_end_line r.input r.end (length (cells_of r.behind) + r.n))
       report-is =
-          report-of (lists_of files (names_of r.behind)) last (lists_of files names) played-is
-          ∙ ap (λ l. l ++ (line_of last ++ switch_end_line r.input (end_of_list last.list.ended) (length (switched (lists_of files names))))) (behind-lines start files told r.behind r.all)
-          ∙ ap (λ e. lines_of r.behind ++ (play_line r.input (length last.list.cells) e ++ switch_end_line r.input e (length (switched (lists_of files names))))) end-is
-          ∙ ap (λ n. lines_of r.behind ++ (play_line r.input n r.end ++ switch_end_line r.input r.end (length (switched (lists_of files names))))) (ap (λ z. length (play_of z).cells) (sym last-is) ∙ sym gives.whole)
+          report-of (lists_of resync files (names_of r.behind)) last (lists_of resync files names) played-is
+          ∙ ap (λ l. l ++ (line_of last ++ switch_end_line r.input (end_of_list last.list.ended) (length (switched (lists_of resync files names))))) (behind-lines resync start files told r.behind r.all)
+          ∙ ap (λ e. lines_of r.behind ++ (play_line r.input (length last.list.cells) e ++ switch_end_line r.input e (length (switched (lists_of resync files names))))) end-is
+          ∙ ap (λ n. lines_of r.behind ++ (play_line r.input n r.end ++ switch_end_line r.input r.end (length (switched (lists_of resync files names))))) (ap (λ (z : StageList). length z.cells) (sym last-is) ∙ sym gives.whole)
           ∙ ap (λ c. lines_of r.behind ++ (play_line r.input r.n r.end ++ switch_end_line r.input r.end c)) count-is
 
-      status-is : status_of_plays (played (lists_of files names)) ≡ status_of r.input r.end
-      status-is = ap status_of_plays played-is ∙ status-append (lists_of files (names_of r.behind)) last ∙ ap (status_of r.input) end-is
+      status-is : status_of_plays (played (lists_of resync files names)) ≡ status_of r.input r.end
+      status-is = ap status_of_plays played-is ∙ status-append (lists_of resync files (names_of r.behind)) last ∙ ap (status_of r.input) end-is
 
       abbrev text : List ℕ
       text = lines_of r.behind ++ (play_line r.input r.n r.end ++ switch_end_line r.input r.end (length (cells_of r.behind) + r.n))
 
-      said : (failed : Bool) → Says r.closed new text failed → ReportsText start new (switched_report (lists_of files names))
+      said : (failed : Bool) → Says r.closed new text failed → ReportsText start new (switched_report (lists_of resync files names))
       said failed says = subst (ReportsText start new) (sym report-is) (by failed says)
         where
           by : (failed : Bool) → Says r.closed new text failed → ReportsText start new text
@@ -241,7 +243,7 @@ module _ (buffer : ℕ) (names : List PlayName) (output : Option (List ℕ)) (st
 
       -- nothing was late: all of it is reported
       pure-of : (late failed : Bool) → late ≡ false → failed ≡ false → Says r.closed new text failed → answer ≡ late_status (late || failed) r.input r.end
-          → IsPureSwitch (lists_of files names) output start new answer
+          → IsPureSwitch (lists_of resync files names) output start new answer
       pure-of late failed l f says is = record {
         written_is = whole-is;
         reported_is =
@@ -249,14 +251,14 @@ module _ (buffer : ℕ) (names : List PlayName) (output : Option (List ℕ)) (st
         answer_is = is ∙ ap (λ b. late_status (b || failed) r.input r.end) l ∙ ap (λ b. late_status b r.input r.end) f ∙ sym status-is;
       }
 
-      whole-of : (failed : Bool) → Says r.closed new text failed → answer ≡ status_of r.input r.end → WritesSwitched (lists_of files names) output start new answer
+      whole-of : (failed : Bool) → Says r.closed new text failed → answer ≡ status_of r.input r.end → WritesSwitched (lists_of resync files names) output start new answer
       whole-of failed says is = record { written_is = whole-is; reported_is = said failed says; answer_is = is ∙ sym status-is }
 
     -- nothing failed
-    pub ran-pure : NothingFails start new → (answer ≡ status.NoMemory) ⊎ IsPureSwitch (lists_of files names) output start new answer
+    pub ran-pure : NothingFails start new → (answer ≡ status.NoMemory) ⊎ IsPureSwitch (lists_of resync files names) output start new answer
     ran-pure nothing = elim r.reported [
       | inl s ↦ inr (
-          let g = gives-own r.bytes r.n r.end r.ends (own-end r.end refl) in
+          let g = gives-own r.list r.n r.end r.ends (own-end r.end refl) in
           pure-of g.0 g.1 g.2 r.late s.0 (not-late r.late refl) (not-failed s.0 _ s.1) s.1 s.2
           )
       | inr n ↦ inl n.0
@@ -282,11 +284,11 @@ module _ (buffer : ℕ) (names : List PlayName) (output : Option (List ℕ)) (st
             (subst (HasCause start.report_faults) (sym (ap (λ (d : DeskView). d.report_faults) says.2 ∙ ap raised r.counted_before)) (HasCause-raised start.report_faults)))
 
     -- after `Done`, `Sync` and `TooLong` the whole list is written
-    pub ran-whole : TellsWhole answer → WritesSwitched (lists_of files names) output start new answer
+    pub ran-whole : TellsWhole answer → WritesSwitched (lists_of resync files names) output start new answer
     ran-whole tells = elim r.reported [
       | inl s ↦ (
           let own = whole-own (r.late || s.0) r.input r.end (subst TellsWhole s.2 tells) in
-          let g = gives-own r.bytes r.n r.end r.ends own.0 in
+          let g = gives-own r.list r.n r.end r.ends own.0 in
           whole-of g.0 g.1 g.2 s.0 s.1 (s.2 ∙ own.1)
           )
       | inr n ↦ absurd (subst TellsWhole n.0 tells)
@@ -313,14 +315,12 @@ module _ (buffer : ℕ) (names : List PlayName) (output : Option (List ℕ)) (st
     | inr n ↦ absurd (let bad : status.NoMemory ≡ status.ReadFault = sym n.0 ∙ is in cc)
   ]
     where
-      shows : (ok : Bool) → LastRead buffer start r.behind r.name r.n r.end r.later r.ahead ok r.sources
+      shows : (ok : Bool) → LastRead resync buffer start r.behind r.name r.n r.end r.later r.ahead ok r.sources
           → new.asked ≡ grown start.asked (all_asked r.behind ++ asked_of ok (record { input = r.input; name = r.name }) ∷ r.ahead)
           → r.end ≡ Input how.ReadFault → ReadFailed start new
       shows false l asked e = inl (all_asked r.behind, record { input = r.input; name = r.name }, r.ahead, (let none = ap (λ (x : List Asked). length x) l.3 in omega (arith, none)), asked)
       shows true l asked e =
-          let f = l.4.at_fault (ap cause_of e) in
-          let one : raised 0 ≡ l.0.faults = ap (λ (s : SourceView). s.faults) f.failed in
-          inr (sources_of r.behind, l.0, l.1, one-more start r.later r.ahead l.1 l.3, subst (λ n. 0 < n) one (omega arith), r.closed_in ∙ ap (with_inputs start.closed_in) l.2)
+          inr (sources_of r.behind, l.0, l.1, one-more resync start r.later r.ahead l.1 l.3, read-fault resync buffer (opened_source start r.name) l.0 r.n (cause_of r.end) l.4 (ap cause_of e), r.closed_in ∙ ap (with_inputs start.closed_in) l.2)
 
   -- a write fault has its cause
   pub ran-write : answer ≡ status.WriteFault → HasCause start.write_faults new.write_faults ⊎ HasCause start.report_faults new.report_faults
@@ -337,33 +337,33 @@ module _ (buffer : ℕ) (names : List PlayName) (output : Option (List ℕ)) (st
 
 -- ---- memory ran out while they were
 
-module _ (names : List PlayName) (output : Option (List ℕ)) (start new : DeskView) (answer : SwitchStatus) (w : SwitchWanted names output start new answer)
+module _ (resync : Bool) (names : List PlayName) (output : Option (List ℕ)) (start new : DeskView) (answer : SwitchStatus) (w : SwitchWanted resync names output start new answer)
     (files : List (List ℕ × List ℕ)) (told : start.files ≡ Some files) where
-  pub wanted-first : WritesFirst (lists_of files names) output start new
+  pub wanted-first : WritesFirst (lists_of resync files names) output start new
   wanted-first = elim w.of_next [ inl none ↦ nothing-of none | inr some ↦ some-of some.0 some.1 some.2 some.3 some.4 some.5 ]
     where
-      split : switched (lists_of files names) ≡ cells_of w.behind ++ switched (lists_of files w.later)
-      split = ap (λ n. switched (lists_of files n)) w.names_are ∙ behind-played start files told w.behind w.later w.all
+      split : switched (lists_of resync files names) ≡ cells_of w.behind ++ switched (lists_of resync files w.later)
+      split = ap (λ n. switched (lists_of resync files n)) w.names_are ∙ behind-played resync start files told w.behind w.later w.all
 
-      nothing-of : w.more ≡ [] → WritesFirst (lists_of files names) output start new
+      nothing-of : w.more ≡ [] → WritesFirst (lists_of resync files names) output start new
       nothing-of none =
-          let b = begins-all (cells_of w.behind) w.more (switched (lists_of files w.later)) w.n w.end w.part w.part_is in
+          let b = begins-all (cells_of w.behind) w.more (switched (lists_of resync files w.later)) w.n w.end w.part w.part_is in
           inr (
             written (cells_of w.behind) ++ (written (take w.n w.more) ++ w.part),
             b.0,
             w.written_is,
-            ap written (split ∙ ap (λ l. cells_of w.behind ++ (l ++ switched (lists_of files w.later))) (sym none)) ∙ b.1,
+            ap written (split ∙ ap (λ l. cells_of w.behind ++ (l ++ switched (lists_of resync files w.later))) (sym none)) ∙ b.1,
           )
 
-      some-of : (play : PlayName) (rest : List PlayName) (bytes : List ℕ) → w.later ≡ play ∷ rest → IfSome start.files (λ fs. bytes ≡ file_of fs play.name) → w.more ≡ (play_of bytes).cells → WritesFirst (lists_of files names) output start new
-      some-of play rest bytes later is more =
-          let list = play_of (file_of files play.name) in
-          let after = all-cells (if is_plain list.ended then played (lists_of files rest) else []) in
+      some-of : (play : PlayName) (rest : List PlayName) (list : StageList) → w.later ≡ play ∷ rest → IsListOf resync start.files play.name list → w.more ≡ list.cells → WritesFirst (lists_of resync files names) output start new
+      some-of play rest list later is more =
+          let of_file = list_of resync (file_of files play.name) in
+          let after = all-cells (if is_plain of_file.ended then played (lists_of resync files rest) else []) in
           let b = begins-all (cells_of w.behind) w.more after w.n w.end w.part w.part_is in
           inr (
             written (cells_of w.behind) ++ (written (take w.n w.more) ++ w.part),
             b.0,
             w.written_is,
-            ap written (split ∙ ap (λ l. cells_of w.behind ++ switched (lists_of files l)) later
-                ∙ ap (λ l. cells_of w.behind ++ (l ++ after)) (ap (λ z. (play_of z).cells) (sym (bytes-told start files told bytes play.name is)) ∙ sym more)) ∙ b.1,
+            ap written (split ∙ ap (λ l. cells_of w.behind ++ switched (lists_of resync files l)) later
+                ∙ ap (λ l. cells_of w.behind ++ (l ++ after)) (ap (λ (z : StageList). z.cells) (sym (list-told resync start files told play.name list is)) ∙ sym more)) ∙ b.1,
           )

@@ -1,7 +1,7 @@
 -- The end of a call, after its plays.
 use Rattle.std.proofs.Common.{◌≡◌, ℕ, ◌+◌, ◌<◌, arith, List, [], ◌∷◌, ◌++◌, length, take, Bool, true, false, Option, None, Some, refl, ap, sym, ◌∙◌, subst, inl, inr, append-nil, append_assoc}
 use Rattle.std.specs.Option.{option_map}
-use Rattle.std.specs.Prelude.{nat_lt, if◌then◌else◌, ◌||◌}
+use Rattle.std.specs.Prelude.{nat_lt, if◌then◌else◌, ◌||◌, ◌⊎◌}
 use Rattle.std.proofs.lemmas.Bool.Decides.{nat_tests}
 use Rattle.std.specs.String.{string_bytes}
 use Rattle.ts_packet.specs.declared.cell.Cell.{Cell}
@@ -18,7 +18,8 @@ use Rattle.chain_run.specs.RunOf.{LeftOutput}
 use Rattle.chain_plays.specs.declared.played.PlayEnd.{PlayEnd}
 use Rattle.chain_plays.specs.declared.played.PlayEnd.TheVariants.{Input, WriteFault}
 use Rattle.chain_model.specs.declared.input_end.InputEnd.TheVariants.{End, Sync, ReadFault, TooLong}
-use Rattle.chain_plays.specs.PlayList.{play_of, cause_of}
+use Rattle.chain_plays.specs.PlayList.{cause_of}
+use Rattle.switch_top.specs.PlayCuts.{end_of}
 use Rattle.switch_top.specs.Nexts.{PlayKind}
 use Rattle.switch_top.specs.declared.status.SwitchStatus.{SwitchStatus}
 use Rattle.switch_top.specs.declared.stepping.Switched.{Switched}
@@ -28,10 +29,12 @@ use Rattle.switch_top.specs.SoFar.{OutputTook, RanTo}
 use Rattle.switch_top.specs.PlaysAfter.{cells_of, lines_of}
 use Rattle.ts_outside.specs.Saying.{Says}
 use Rattle.ts_outside.specs.Entries.{outputs_with}
-use Rattle.switch_top.specs.SwitchEnds.{ReportsPlays, CountsOutput, IsPart, SwitchRan, SwitchWanted}
+use Rattle.switch_top.specs.SwitchEnds.{ReportsPlays, CountsOutput, IsPart, SwitchRan, SwitchWanted, SwitchesPlan, wanted, ran, opened_as}
 use Rattle.switch_top.specs.OutputKept.{closed_as, ClosesWell, IsOutputOf}
 use Rattle.switch_top.specs.declared.status.SwitchStatus.TheVariants as status
-use Rattle.switch_top.specs.SoFar.{Wanted}
+use Rattle.switch_top.specs.SoFar.{AreAllPlayed, Wanted}
+use Rattle.switch_top.specs.declared.stepping.AllPlayed.{AllPlayed}
+use Rattle.switch_top.specs.declared.stepping.AllPlayed.TheVariants as all
 use Rattle.std.proofs.Common.{Err}
 use Rattle.ts_outside.specs.OpenFault.{MatchOpen}
 use Rattle.ts_outside.specs.declared.faults.OpenFault.{OpenFault}
@@ -153,13 +156,13 @@ closing-leaves seen d out.Discard failed = record { reported = refl; asked = ref
 
 pub switch-ran : {S A K : Type 0} (see : PlayKind S A K) (core : CorePlan) (inputs : List (List ℕ)) (names : List PlayName) (start : DeskView) (first : OutputPart K) (name : Option (List ℕ)) (o : Switched K) (d closed new : DeskView) (failed : Bool) (answer : SwitchStatus)
     → RanTo see core inputs names start first o d → IsOutputOf see.sink start name first → ClosesWell o.output failed → closed ≡ closed_as see.sink d o.output failed
-    → ReportsPlays (string_bytes o.text ++ switch_end_line o.input o.end o.count) o.input o.end failed closed new answer → SwitchRan core.buffer names name start new answer
+    → ReportsPlays (string_bytes o.text ++ switch_end_line o.input (end_of o.end) o.count) o.input (end_of o.end) failed closed new answer → SwitchRan see.resync core.buffer names name start new answer
 switch-ran see core inputs names start first name o d closed new failed answer r is well c reports =
-    let w = wrote see.sink start d r.desk_is.outputs (cells_of r.behind) (play_of r.last.bytes).cells r.n first r.last.before o.output name o.end failed is r.last.output r.last.last_took in
-    let leaves = reports-leaves _ o.input o.end failed closed new answer reports in
+    let w = wrote see.sink start d r.desk_is.outputs (cells_of r.behind) r.last.list.cells r.n first r.last.before o.output name (end_of o.end) failed is r.last.output r.last.last_took in
+    let leaves = reports-leaves _ o.input (end_of o.end) failed closed new answer reports in
     let rest = subst (LeavesRest d) (sym c) (closing-leaves see.sink d o.output failed) in
-    let text : string_bytes o.text ++ switch_end_line o.input o.end o.count ≡ lines_of r.behind ++ (play_line o.input r.n o.end ++ switch_end_line o.input o.end (length (cells_of r.behind) + r.n)) =
-    ap (λ l. l ++ switch_end_line o.input o.end o.count) r.text_is ∙ append_assoc (lines_of r.behind) (play_line o.input r.n o.end) (switch_end_line o.input o.end o.count) ∙ ap (λ k. lines_of r.behind ++ (play_line o.input r.n o.end ++ switch_end_line o.input o.end k)) r.count_is in
+    let text : string_bytes o.text ++ switch_end_line o.input (end_of o.end) o.count ≡ lines_of r.behind ++ (play_line o.input r.n (end_of o.end) ++ switch_end_line o.input (end_of o.end) (length (cells_of r.behind) + r.n)) =
+    ap (λ l. l ++ switch_end_line o.input (end_of o.end) o.count) r.text_is ∙ append_assoc (lines_of r.behind) (play_line o.input r.n (end_of o.end)) (switch_end_line o.input (end_of o.end) o.count) ∙ ap (λ k. lines_of r.behind ++ (play_line o.input r.n (end_of o.end) ++ switch_end_line o.input (end_of o.end) k)) r.count_is in
     record {
       behind = r.behind;
       all = r.all;
@@ -167,10 +170,10 @@ switch-ran see core inputs names start first name o d closed new failed answer r
       name = r.name;
       later = r.later;
       names_are = r.names_are;
-      bytes = r.last.bytes;
-      told = r.last.told;
+      list = r.last.list;
+      list_is = r.last.list_is;
       n = r.n;
-      end = o.end;
+      end = end_of o.end;
       ends = r.last.ends;
       plain_is_last = r.plain_is_last;
       part = w.part;
@@ -180,11 +183,11 @@ switch-ran see core inputs names start first name o d closed new failed answer r
       closed = closed;
       reported_before = rest.reported ∙ r.desk_is.reported;
       counted_before = rest.report_count ∙ r.desk_is.reports;
-      counts = subst (λ (x : DeskView). CountsOutput start.write_faults x.write_faults o.end failed) (sym c)
-          (subst (λ k. CountsOutput k (closed_as see.sink d o.output failed).write_faults o.end failed) r.desk_is.writes
-          (counted see.sink start d (cells_of r.behind) (play_of r.last.bytes).cells r.n first r.last.before o.output name o.end failed is r.last.output r.last.last_took well));
+      counts = subst (λ (x : DeskView). CountsOutput start.write_faults x.write_faults (end_of o.end) failed) (sym c)
+          (subst (λ k. CountsOutput k (closed_as see.sink d o.output failed).write_faults (end_of o.end) failed) r.desk_is.writes
+          (counted see.sink start d (cells_of r.behind) r.last.list.cells r.n first r.last.before o.output name (end_of o.end) failed is r.last.output r.last.last_took well));
       writes = leaves.writes;
-      reported = subst (λ t. ReportsPlays t o.input o.end failed closed new answer) text reports;
+      reported = subst (λ t. ReportsPlays t o.input (end_of o.end) failed closed new answer) text reports;
       ok = r.ok;
       ahead = r.ahead;
       asked = leaves.asked ∙ rest.asked ∙ r.desk_is.asked_is;
@@ -196,7 +199,7 @@ switch-ran see core inputs names start first name o d closed new failed answer r
     }
 
 pub switch-wanted : {S A K : Type 0} (see : PlayKind S A K) (core : CorePlan) (inputs : List (List ℕ)) (names : List PlayName) (start : DeskView) (first : OutputPart K) (name : Option (List ℕ)) (last : OutputPart K) (d new : DeskView) (failed : Bool) (answer : SwitchStatus) → answer ≡ status.NoMemory
-    → Wanted see core inputs names start first last d → IsOutputOf see.sink start name first → new ≡ closed_as see.sink d last failed → SwitchWanted names name start new answer
+    → Wanted see core inputs names start first last d → IsOutputOf see.sink start name first → new ≡ closed_as see.sink d last failed → SwitchWanted see.resync names name start new answer
 switch-wanted see core inputs names start first name last d new failed answer a w is c = elim w.took [
   | inl took ↦ (let x = wrote see.sink start d w.desk_is.outputs (cells_of w.behind) [] 0 first last last name (Input ReadFault) failed is took (nothing_taken see.sink last []) in
       record {
@@ -218,17 +221,17 @@ switch-wanted see core inputs names start first name last d new failed answer a 
         asked_is = rest.asked ∙ w.desk_is.asked_is;
         files = rest.files ∙ w.desk_is.files;
       })
-  | inr l ↦ (let i = l.5 in let x = wrote see.sink start d w.desk_is.outputs (cells_of w.behind) (play_of i.bytes).cells l.1 first i.before last name l.2 failed is i.output i.last_took in
+  | inr l ↦ (let i = l.5 in let x = wrote see.sink start d w.desk_is.outputs (cells_of w.behind) i.list.cells l.1 first i.before last name l.2 failed is i.output i.last_took in
       record {
         answer_is = a;
         behind = w.behind;
         all = w.all;
         later = w.later;
         names_are = w.names_are;
-        more = (play_of i.bytes).cells;
+        more = i.list.cells;
         n = l.1;
         end = l.2;
-        of_next = inr (l.0, l.3, i.bytes, l.4, i.told, refl, i.ends);
+        of_next = inr (l.0, l.3, i.list, l.4, i.list_is, refl, i.ends);
         part = x.part;
         part_is = x.part_is;
         written_is = ap (λ (z : DeskView). z.outputs) c ∙ x.outputs;
@@ -247,3 +250,17 @@ switch-wanted see core inputs names start first name last d new failed answer a 
 pub failed-of : {T : Type 0} (P : T → Type 0) (Q R : Type 0) (fault : OpenFault) → fault ≡ Failed → MatchOpen {T = T} (Err fault) P Q R → Q
 failed-of P Q R Failed e m = m
 failed-of P Q R NoMemory e m = absurd cc
+
+-- the plays by their result
+module _ {S A K : Type 0} (see : PlayKind S A K) (core : CorePlan) (inputs : List (List ℕ)) (names : List PlayName) (start : DeskView) (first : OutputPart K) (desk : DeskView) (played : AllPlayed K) where
+  pub ran-of : (over : Switched K) → played ≡ all.Over over → AreAllPlayed see core inputs names start first played desk → RanTo see core inputs names start first over desk
+  ran-of over is r = subst (λ (p : AllPlayed K). AreAllPlayed see core inputs names start first p desk) is r
+
+  pub wanted-of : (output : OutputPart K) → played ≡ all.Wants output → AreAllPlayed see core inputs names start first played desk → Wanted see core inputs names start first output desk
+  wanted-of output is r = subst (λ (p : AllPlayed K). AreAllPlayed see core inputs names start first p desk) is r
+
+-- a call whose output was opened
+pub plan-played : (resync : Bool) (buffer : ℕ) (names : List PlayName) (output : Option (List ℕ)) (old mid new : DeskView) (answer : SwitchStatus) → mid ≡ opened_as old output
+    → SwitchWanted resync names output mid new answer ⊎ SwitchRan resync buffer names output mid new answer → SwitchesPlan resync buffer names output old new answer
+plan-played resync buffer names output old mid new answer is (inl w) = wanted (subst (λ (d : DeskView). SwitchWanted resync names output d new answer) is w)
+plan-played resync buffer names output old mid new answer is (inr r) = ran (subst (λ (d : DeskView). SwitchRan resync buffer names output d new answer) is r)

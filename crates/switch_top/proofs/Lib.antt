@@ -1,5 +1,8 @@
 mod PlayNameLemmas
 mod SwitchLemmas
+mod FoundPlays
+mod FoundLemmas
+mod PlayListLemmas
 mod StepLemmas
 mod Rows
 mod SwitchedLaws

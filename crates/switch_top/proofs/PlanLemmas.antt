@@ -13,9 +13,10 @@ use Rattle.switch_top.specs.SwitchCall.{CallsSwitch, at_plan}
 
 pub planned : (words : List (List ℕ)) (given : Given) (plan : SwitchPlan) (old new : DeskView) (answer : SwitchStatus)
     → read_of words ≡ Some given → IsPlanOf given plan
-    → SwitchesPlan plan.buffer (rows_of plan.cycle plan.inputs.items) (output_name (output_of plan.output)) old new answer → CallsSwitch words old new answer
+    → SwitchesPlan plan.resync plan.buffer (rows_of plan.cycle plan.inputs.items) (output_name (output_of plan.output)) old new answer → CallsSwitch words old new answer
 planned words given plan old new answer read is switches =
     at_plan given read plan.buffer is.buffer
-    (subst (λ o. SwitchesPlan plan.buffer (plays_of given) (output_name o) old new answer) is.output
-    (subst (λ l. SwitchesPlan plan.buffer (rows_of (unwrap_or given.cycle 1) l) (output_name (output_of plan.output)) old new answer) is.inputs
-    (subst (λ n. SwitchesPlan plan.buffer (rows_of n plan.inputs.items) (output_name (output_of plan.output)) old new answer) is.cycle switches)))
+    (subst (λ o. SwitchesPlan given.resync plan.buffer (plays_of given) (output_name o) old new answer) is.output
+    (subst (λ l. SwitchesPlan given.resync plan.buffer (rows_of (unwrap_or given.cycle 1) l) (output_name (output_of plan.output)) old new answer) is.inputs
+    (subst (λ n. SwitchesPlan given.resync plan.buffer (rows_of n plan.inputs.items) (output_name (output_of plan.output)) old new answer) is.cycle
+    (subst (λ b. SwitchesPlan b plan.buffer (rows_of plan.cycle plan.inputs.items) (output_name (output_of plan.output)) old new answer) is.resync switches))))

@@ -1,16 +1,17 @@
 -- Plays that were played to their ends are those of the switched list, and their lines are its report.
-use Rattle.std.proofs.Common.{◌≡◌, ℕ, ◌+◌, List, [], ◌∷◌, ◌++◌, length, Option, Some, refl, ap, sym, ◌∙◌, subst, append-nil, append_assoc}
-use Rattle.std.specs.Prelude.{Bool, true, ◌&&◌, IfSome, if◌then◌else◌}
+use Rattle.std.proofs.Common.{◌≡◌, ℕ, List, [], ◌∷◌, ◌++◌, length, Option, Some, refl, ap, sym, ◌∙◌, subst, append-nil, append_assoc}
+use Rattle.std.specs.Prelude.{Bool, true, ◌&&◌, if◌then◌else◌}
 use Rattle.std.specs.List.{flat_map, list_all}
 use Rattle.ts_packet.specs.declared.cell.Cell.{Cell}
 use Rattle.ts_outside.specs.Desk.{DeskView, file_of}
 use Rattle.chain_model.specs.declared.input_end.InputEnd.{InputEnd}
 use Rattle.chain_model.specs.declared.input_end.InputEnd.TheVariants.{End, Sync, ReadFault, TooLong}
-use Rattle.chain_model.specs.Apply.{OwnEnd, input_over}
+use Rattle.chain_model.specs.Apply.{StageList, OwnEnd, input_over}
 use Rattle.chain_model.specs.Each.{Each}
 use Rattle.chain_plays.specs.declared.played.PlayEnd.TheVariants.{Input}
-use Rattle.chain_plays.specs.PlayList.{play_of}
 use Rattle.switch_top.specs.PlayNames.{PlayName}
+use Rattle.switch_top.specs.PlayLists.{list_of, IsListOf}
+use Rattle.switch_top.proofs.PlayListLemmas.{told-list}
 use Rattle.switch_top.specs.Lines.{play_line, switch_end_line}
 use Rattle.switch_top.specs.Switched.{PlayList, lists_of, is_plain, played, switched, end_of_list, line_of, last_of, end_of_plays, switched_report}
 use Rattle.switch_top.specs.PlaysAfter.{Behind, IsAfter, names_of, cells_of, lines_of}
@@ -34,54 +35,54 @@ last-on play later how e none = subst (λ (o : Option OwnEnd). (play ∷ (if is_
     by-how ReadFault none = refl
     by-how TooLong none = refl
 
-module _ (start : DeskView) (files : List (List ℕ × List ℕ)) (told : start.files ≡ Some files) where
-  pub bytes-told : (bytes name : List ℕ) → IfSome start.files (λ fs. bytes ≡ file_of fs name) → bytes ≡ file_of files name
-  bytes-told bytes name t = subst (λ (o : Option (List (List ℕ × List ℕ))). IfSome o (λ fs. bytes ≡ file_of fs name)) told t
+module _ (resync : Bool) (start : DeskView) (files : List (List ℕ × List ℕ)) (told : start.files ≡ Some files) where
+  pub list-told : (name : List ℕ) (list : StageList) → IsListOf resync start.files name list → list ≡ list_of resync (file_of files name)
+  list-told name list is = told-list resync files name list (subst (λ (o : Option (List (List ℕ × List ℕ))). IsListOf resync o name list) told is)
 
-  plain-file : (b : Behind) → IsAfter start b → (play_of (file_of files b.play.name)).ended ≡ Some (input_over (End b.left))
-  plain-file b is = ap (λ l. (play_of l).ended) (sym (bytes-told b.bytes b.play.name is.told)) ∙ is.plain
+  plain-file : (b : Behind) → IsAfter resync start b → (list_of resync (file_of files b.play.name)).ended ≡ Some (input_over (End b.left))
+  plain-file b is = ap (λ (l : StageList). l.ended) (sym (list-told b.play.name b.list is.list_is)) ∙ is.plain
 
   both-true : (a b : Bool) → a ≡ true → b ≡ true → (a && b) ≡ true
   both-true a b first second = ap (λ x. x && b) first ∙ second
 
   -- all plays that are over end plainly
-  pub behind-plain : (behind : List Behind) → Each (IsAfter start) behind → list_all (λ (p : PlayList). is_plain p.list.ended) (lists_of files (names_of behind)) ≡ true
+  pub behind-plain : (behind : List Behind) → Each (IsAfter resync start) behind → list_all (λ (p : PlayList). is_plain p.list.ended) (lists_of resync files (names_of behind)) ≡ true
   behind-plain [] all = refl
   behind-plain (b ∷ bs) all =
-      both-true (is_plain (play_of (file_of files b.play.name)).ended) (list_all (λ (p : PlayList). is_plain p.list.ended) (lists_of files (names_of bs)))
+      both-true (is_plain (list_of resync (file_of files b.play.name)).ended) (list_all (λ (p : PlayList). is_plain p.list.ended) (lists_of resync files (names_of bs)))
       (ap is_plain (plain-file b all.0)) (behind-plain bs all.1)
 
   -- all plays that are over are played
-  pub behind-on : (behind : List Behind) (rest : List PlayName) → Each (IsAfter start) behind → played (lists_of files (names_of behind ++ rest)) ≡ lists_of files (names_of behind) ++ played (lists_of files rest)
+  pub behind-on : (behind : List Behind) (rest : List PlayName) → Each (IsAfter resync start) behind → played (lists_of resync files (names_of behind ++ rest)) ≡ lists_of resync files (names_of behind) ++ played (lists_of resync files rest)
   behind-on [] rest all = refl
   behind-on (b ∷ bs) rest all =
-      plain-on (record { input = b.play.input; list = play_of (file_of files b.play.name) }) (lists_of files (names_of bs ++ rest)) b.left (plain-file b all.0)
-      ∙ ap (λ l. record { input = b.play.input; list = play_of (file_of files b.play.name) } ∷ l) (behind-on bs rest all.1)
+      plain-on (record { input = b.play.input; list = list_of resync (file_of files b.play.name) }) (lists_of resync files (names_of bs ++ rest)) b.left (plain-file b all.0)
+      ∙ ap (λ l. record { input = b.play.input; list = list_of resync (file_of files b.play.name) } ∷ l) (behind-on bs rest all.1)
 
   -- and their packets are those of their files
-  pub behind-cells : (behind : List Behind) → Each (IsAfter start) behind → all-cells (lists_of files (names_of behind)) ≡ cells_of behind
+  pub behind-cells : (behind : List Behind) → Each (IsAfter resync start) behind → all-cells (lists_of resync files (names_of behind)) ≡ cells_of behind
   behind-cells [] all = refl
   behind-cells (b ∷ bs) all =
-      ap (λ l. (play_of (file_of files b.play.name)).cells ++ l) (behind-cells bs all.1)
-      ∙ ap (λ z. (play_of z).cells ++ cells_of bs) (sym (bytes-told b.bytes b.play.name all.0.told))
+      ap (λ l. (list_of resync (file_of files b.play.name)).cells ++ l) (behind-cells bs all.1)
+      ∙ ap (λ (l : StageList). l.cells ++ cells_of bs) (sym (list-told b.play.name b.list all.0.list_is))
 
   -- and so are their lines
-  behind-line : (b : Behind) → IsAfter start b → line_of (record { input = b.play.input; list = play_of (file_of files b.play.name) }) ≡ play_line b.play.input (length (play_of b.bytes).cells) (Input (End b.left))
+  behind-line : (b : Behind) → IsAfter resync start b → line_of (record { input = b.play.input; list = list_of resync (file_of files b.play.name) }) ≡ play_line b.play.input (length b.list.cells) (Input (End b.left))
   behind-line b is =
-      ap (λ (o : Option OwnEnd). play_line b.play.input (length (play_of (file_of files b.play.name)).cells) (end_of_list o)) (plain-file b is)
-      ∙ ap (λ z. play_line b.play.input (length (play_of z).cells) (Input (End b.left))) (sym (bytes-told b.bytes b.play.name is.told))
+      ap (λ (o : Option OwnEnd). play_line b.play.input (length (list_of resync (file_of files b.play.name)).cells) (end_of_list o)) (plain-file b is)
+      ∙ ap (λ (l : StageList). play_line b.play.input (length l.cells) (Input (End b.left))) (sym (list-told b.play.name b.list is.list_is))
 
-  pub behind-lines : (behind : List Behind) → Each (IsAfter start) behind → flat_map line_of (lists_of files (names_of behind)) ≡ lines_of behind
+  pub behind-lines : (behind : List Behind) → Each (IsAfter resync start) behind → flat_map line_of (lists_of resync files (names_of behind)) ≡ lines_of behind
   behind-lines [] all = refl
   behind-lines (b ∷ bs) all =
-      ap (λ l. line_of (record { input = b.play.input; list = play_of (file_of files b.play.name) }) ++ l) (behind-lines bs all.1)
+      ap (λ l. line_of (record { input = b.play.input; list = list_of resync (file_of files b.play.name) }) ++ l) (behind-lines bs all.1)
       ∙ ap (λ l. l ++ lines_of bs) (behind-line b all.0)
 
-  pub behind-played : (behind : List Behind) (rest : List PlayName) → Each (IsAfter start) behind → switched (lists_of files (names_of behind ++ rest)) ≡ cells_of behind ++ switched (lists_of files rest)
+  pub behind-played : (behind : List Behind) (rest : List PlayName) → Each (IsAfter resync start) behind → switched (lists_of resync files (names_of behind ++ rest)) ≡ cells_of behind ++ switched (lists_of resync files rest)
   behind-played behind rest all =
       ap all-cells (behind-on behind rest all)
-      ∙ flat-append (λ (p : PlayList). p.list.cells) (lists_of files (names_of behind)) (played (lists_of files rest))
-      ∙ ap (λ l. l ++ switched (lists_of files rest)) (behind-cells behind all)
+      ∙ flat-append (λ (p : PlayList). p.list.cells) (lists_of resync files (names_of behind)) (played (lists_of resync files rest))
+      ∙ ap (λ l. l ++ switched (lists_of resync files rest)) (behind-cells behind all)
 
 last-append : (play : PlayList) (plays : List PlayList) (last : PlayList) → last_of play (plays ++ last ∷ []) ≡ last
 last-append play [] last = refl

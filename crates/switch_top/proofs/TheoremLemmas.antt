@@ -45,58 +45,58 @@ module _ (old new : DeskView) (name : List ℕ) where
 
 -- ---- from the plan on
 
-module _ (buffer : ℕ) (names : List PlayName) (old new : DeskView) (answer : SwitchStatus) where
+module _ (resync : Bool) (buffer : ℕ) (names : List PlayName) (old new : DeskView) (answer : SwitchStatus) where
   module _ (files : List (List ℕ × List ℕ)) (told : old.files ≡ Some files) where
-    plan-pure : (output : Option (List ℕ)) → SwitchesPlan buffer names output old new answer → NothingFails old new
-        → (answer ≡ status.NoMemory) ⊎ IsPureSwitch (lists_of files names) output old new answer
+    plan-pure : (output : Option (List ℕ)) → SwitchesPlan resync buffer names output old new answer → NothingFails old new
+        → (answer ≡ status.NoMemory) ⊎ IsPureSwitch (lists_of resync files names) output old new answer
     plan-pure output (no_output name failed is answer_is says) nothing = absurd (quiet-absurd old.write_faults new.write_faults nothing.writes (raised-later _ _ (refused-writes old new name failed _ says)))
     plan-pure output (out_of_memory answer_is same) nothing = inl answer_is
     plan-pure output (wanted w) nothing = inl w.answer_is
-    plan-pure None (ran r) nothing = ran-pure buffer names None old new answer r files told nothing
-    plan-pure (Some name) (ran r) nothing = elim (ran-pure buffer names (Some name) (asked_well old purpose.Output name) new answer r files told (record { reads = nothing.reads; writes = nothing.writes; reports = nothing.reports })) [
+    plan-pure None (ran r) nothing = ran-pure resync buffer names None old new answer r files told nothing
+    plan-pure (Some name) (ran r) nothing = elim (ran-pure resync buffer names (Some name) (asked_well old purpose.Output name) new answer r files told (record { reads = nothing.reads; writes = nothing.writes; reports = nothing.reports })) [
       | inl e ↦ inl e
       | inr p ↦ inr (record { written_is = p.written_is; reported_is = p.reported_is; answer_is = p.answer_is })
     ]
 
-    plan-first : (output : Option (List ℕ)) → SwitchesPlan buffer names output old new answer → WritesFirst (lists_of files names) output old new
+    plan-first : (output : Option (List ℕ)) → SwitchesPlan resync buffer names output old new answer → WritesFirst (lists_of resync files names) output old new
     plan-first output (no_output name failed is answer_is says) = inl (refused-outputs old new name failed _ says)
     plan-first output (out_of_memory answer_is same) = inl (ap (λ (d : DeskView). d.outputs) same)
-    plan-first None (wanted w) = wanted-first names None old new answer w files told
-    plan-first (Some name) (wanted w) = wanted-first names (Some name) (asked_well old purpose.Output name) new answer w files told
-    plan-first None (ran r) = ran-first buffer names None old new answer r files told
-    plan-first (Some name) (ran r) = ran-first buffer names (Some name) (asked_well old purpose.Output name) new answer r files told
+    plan-first None (wanted w) = wanted-first resync names None old new answer w files told
+    plan-first (Some name) (wanted w) = wanted-first resync names (Some name) (asked_well old purpose.Output name) new answer w files told
+    plan-first None (ran r) = ran-first resync buffer names None old new answer r files told
+    plan-first (Some name) (ran r) = ran-first resync buffer names (Some name) (asked_well old purpose.Output name) new answer r files told
 
-    plan-whole : (output : Option (List ℕ)) → SwitchesPlan buffer names output old new answer → TellsWhole answer → WritesSwitched (lists_of files names) output old new answer
+    plan-whole : (output : Option (List ℕ)) → SwitchesPlan resync buffer names output old new answer → TellsWhole answer → WritesSwitched (lists_of resync files names) output old new answer
     plan-whole output (no_output name failed is answer_is says) tells = absurd (subst TellsWhole answer_is tells)
     plan-whole output (out_of_memory answer_is same) tells = absurd (subst TellsWhole answer_is tells)
     plan-whole output (wanted w) tells = absurd (subst TellsWhole w.answer_is tells)
-    plan-whole None (ran r) tells = ran-whole buffer names None old new answer r files told tells
+    plan-whole None (ran r) tells = ran-whole resync buffer names None old new answer r files told tells
     plan-whole (Some name) (ran r) tells =
-        let p = ran-whole buffer names (Some name) (asked_well old purpose.Output name) new answer r files told tells in
+        let p = ran-whole resync buffer names (Some name) (asked_well old purpose.Output name) new answer r files told tells in
         record { written_is = p.written_is; reported_is = p.reported_is; answer_is = p.answer_is }
 
-  plan-done : (output : Option (List ℕ)) → SwitchesPlan buffer names output old new answer → answer ≡ status.Done → NothingLate old new
+  plan-done : (output : Option (List ℕ)) → SwitchesPlan resync buffer names output old new answer → answer ≡ status.Done → NothingLate old new
   plan-done output (no_output name failed is answer_is says) done = absurd (let bad : status.WriteFault ≡ status.Done = sym answer_is ∙ done in cc)
   plan-done output (out_of_memory answer_is same) done = absurd (let bad : status.NoMemory ≡ status.Done = sym answer_is ∙ done in cc)
   plan-done output (wanted w) done = absurd (let bad : status.NoMemory ≡ status.Done = sym w.answer_is ∙ done in cc)
-  plan-done None (ran r) done = ran-done buffer names None old new answer r done
-  plan-done (Some name) (ran r) done = (let l = ran-done buffer names (Some name) (asked_well old purpose.Output name) new answer r done in record { writes = l.writes; reports = l.reports })
+  plan-done None (ran r) done = ran-done resync buffer names None old new answer r done
+  plan-done (Some name) (ran r) done = (let l = ran-done resync buffer names (Some name) (asked_well old purpose.Output name) new answer r done in record { writes = l.writes; reports = l.reports })
 
-  plan-fault : (output : Option (List ℕ)) → SwitchesPlan buffer names output old new answer → answer ≡ status.ReadFault
+  plan-fault : (output : Option (List ℕ)) → SwitchesPlan resync buffer names output old new answer → answer ≡ status.ReadFault
       → HasCause old.read_faults new.read_faults × ReadFailed (opened_as old output) new
   plan-fault output (no_output name failed is answer_is says) e = absurd (let bad : status.WriteFault ≡ status.ReadFault = sym answer_is ∙ e in cc)
   plan-fault output (out_of_memory answer_is same) e = absurd (let bad : status.NoMemory ≡ status.ReadFault = sym answer_is ∙ e in cc)
   plan-fault output (wanted w) e = absurd (let bad : status.NoMemory ≡ status.ReadFault = sym w.answer_is ∙ e in cc)
-  plan-fault None (ran r) e = ran-fault buffer names None old new answer r e
-  plan-fault (Some name) (ran r) e = ran-fault buffer names (Some name) (asked_well old purpose.Output name) new answer r e
+  plan-fault None (ran r) e = ran-fault resync buffer names None old new answer r e
+  plan-fault (Some name) (ran r) e = ran-fault resync buffer names (Some name) (asked_well old purpose.Output name) new answer r e
 
-  plan-write : (output : Option (List ℕ)) → SwitchesPlan buffer names output old new answer → answer ≡ status.WriteFault
+  plan-write : (output : Option (List ℕ)) → SwitchesPlan resync buffer names output old new answer → answer ≡ status.WriteFault
       → HasCause old.write_faults new.write_faults ⊎ HasCause old.report_faults new.report_faults
   plan-write output (no_output name failed is answer_is says) e = inl (raised-later _ _ (refused-writes old new name failed _ says))
   plan-write output (out_of_memory answer_is same) e = absurd (let bad : status.NoMemory ≡ status.WriteFault = sym answer_is ∙ e in cc)
   plan-write output (wanted w) e = absurd (let bad : status.NoMemory ≡ status.WriteFault = sym w.answer_is ∙ e in cc)
-  plan-write None (ran r) e = ran-write buffer names None old new answer r e
-  plan-write (Some name) (ran r) e = ran-write buffer names (Some name) (asked_well old purpose.Output name) new answer r e
+  plan-write None (ran r) e = ran-write resync buffer names None old new answer r e
+  plan-write (Some name) (ran r) e = ran-write resync buffer names (Some name) (asked_well old purpose.Output name) new answer r e
 
 -- ---- the whole call
 
@@ -110,46 +110,46 @@ module _ (law : (words : List (List ℕ)) → NoFault words) (words : List (List
       call-pure (at_words word failed is fault says) nothing = absurd (law words given word read fault)
       call-pure (no_room is same) nothing = inl is
       call-pure (at_plan other is buffer size switches) nothing =
-          plan-pure buffer (plays_of given) old new answer files told (output_name given.output)
-          (subst (λ (g : Given). SwitchesPlan buffer (plays_of g) (output_name g.output) old new answer) (same-given other is) switches) nothing
+          plan-pure given.resync buffer (plays_of given) old new answer files told (output_name given.output)
+          (subst (λ (g : Given). SwitchesPlan g.resync buffer (plays_of g) (output_name g.output) old new answer) (same-given other is) switches) nothing
 
       pub call-first : CallsSwitch words old new answer → WritesFirst (lists_given given files) (output_name given.output) old new
       call-first (at_words word failed is fault says) = absurd (law words given word read fault)
       call-first (no_room is same) = inl (ap (λ (d : DeskView). d.outputs) same)
       call-first (at_plan other is buffer size switches) =
-          plan-first buffer (plays_of given) old new answer files told (output_name given.output)
-          (subst (λ (g : Given). SwitchesPlan buffer (plays_of g) (output_name g.output) old new answer) (same-given other is) switches)
+          plan-first given.resync buffer (plays_of given) old new answer files told (output_name given.output)
+          (subst (λ (g : Given). SwitchesPlan g.resync buffer (plays_of g) (output_name g.output) old new answer) (same-given other is) switches)
 
       pub call-whole : CallsSwitch words old new answer → TellsWhole answer → WritesSwitched (lists_given given files) (output_name given.output) old new answer
       call-whole (at_words word failed is fault says) tells = absurd (law words given word read fault)
       call-whole (no_room is same) tells = absurd (subst TellsWhole is tells)
       call-whole (at_plan other is buffer size switches) tells =
-          plan-whole buffer (plays_of given) old new answer files told (output_name given.output)
-          (subst (λ (g : Given). SwitchesPlan buffer (plays_of g) (output_name g.output) old new answer) (same-given other is) switches) tells
+          plan-whole given.resync buffer (plays_of given) old new answer files told (output_name given.output)
+          (subst (λ (g : Given). SwitchesPlan g.resync buffer (plays_of g) (output_name g.output) old new answer) (same-given other is) switches) tells
 
     pub call-fault : CallsSwitch words old new status.ReadFault → HasCause old.read_faults new.read_faults × ReadFailed (opened_as old (output_name given.output)) new
     call-fault (at_words word failed is fault says) = absurd (let bad : status.ReadFault ≡ status.Words word = is in cc)
     call-fault (no_room is same) = absurd (let bad : status.ReadFault ≡ status.NoMemory = is in cc)
     call-fault (at_plan other is buffer size switches) =
-        plan-fault buffer (plays_of given) old new status.ReadFault (output_name given.output)
-        (subst (λ (g : Given). SwitchesPlan buffer (plays_of g) (output_name g.output) old new status.ReadFault) (same-given other is) switches) refl
+        plan-fault given.resync buffer (plays_of given) old new status.ReadFault (output_name given.output)
+        (subst (λ (g : Given). SwitchesPlan g.resync buffer (plays_of g) (output_name g.output) old new status.ReadFault) (same-given other is) switches) refl
 
 pub call-done : (words : List (List ℕ)) (old new : DeskView) → CallsSwitch words old new status.Done → NothingLate old new
 call-done words old new (at_words word failed is fault says) = absurd (let bad : status.Done ≡ status.Words word = is in cc)
 call-done words old new (no_room is same) = absurd (let bad : status.Done ≡ status.NoMemory = is in cc)
-call-done words old new (at_plan given is buffer size switches) = plan-done buffer (plays_of given) old new status.Done (output_name given.output) switches refl
+call-done words old new (at_plan given is buffer size switches) = plan-done given.resync buffer (plays_of given) old new status.Done (output_name given.output) switches refl
 
 pub call-write : (words : List (List ℕ)) (old new : DeskView) → CallsSwitch words old new status.WriteFault → HasCause old.write_faults new.write_faults ⊎ HasCause old.report_faults new.report_faults
 call-write words old new (at_words word failed is fault says) = absurd (let bad : status.WriteFault ≡ status.Words word = is in cc)
 call-write words old new (no_room is same) = absurd (let bad : status.WriteFault ≡ status.NoMemory = is in cc)
-call-write words old new (at_plan given is buffer size switches) = plan-write buffer (plays_of given) old new status.WriteFault (output_name given.output) switches refl
+call-write words old new (at_plan given is buffer size switches) = plan-write given.resync buffer (plays_of given) old new status.WriteFault (output_name given.output) switches refl
 
 -- `Words` comes of the words alone: the plays never end so
-plan-words : (buffer : ℕ) (names : List PlayName) (output : Option (List ℕ)) (old new : DeskView) (word : ℕ) → SwitchesPlan buffer names output old new (status.Words word) → ⊥
-plan-words buffer names output old new word (no_output name failed is e says) = (let bad : status.Words word ≡ status.WriteFault = e in cc)
-plan-words buffer names output old new word (out_of_memory e same) = (let bad : status.Words word ≡ status.NoMemory = e in cc)
-plan-words buffer names output old new word (wanted w) = (let bad : status.Words word ≡ status.NoMemory = w.answer_is in cc)
-plan-words buffer names output old new word (ran r) = elim r.reported [ inl s ↦ never-words _ r.input r.end s.2 | inr n ↦ (let bad : status.Words word ≡ status.NoMemory = n.0 in cc) ]
+plan-words : (resync : Bool) (buffer : ℕ) (names : List PlayName) (output : Option (List ℕ)) (old new : DeskView) (word : ℕ) → SwitchesPlan resync buffer names output old new (status.Words word) → ⊥
+plan-words resync buffer names output old new word (no_output name failed is e says) = (let bad : status.Words word ≡ status.WriteFault = e in cc)
+plan-words resync buffer names output old new word (out_of_memory e same) = (let bad : status.Words word ≡ status.NoMemory = e in cc)
+plan-words resync buffer names output old new word (wanted w) = (let bad : status.Words word ≡ status.NoMemory = w.answer_is in cc)
+plan-words resync buffer names output old new word (ran r) = elim r.reported [ inl s ↦ never-words _ r.input r.end s.2 | inr n ↦ (let bad : status.Words word ≡ status.NoMemory = n.0 in cc) ]
   where
     never-words : (late : Bool) (input : ℕ) (end : PlayEnd) → status.Words word ≡ late_status late input end → ⊥
     never-words true input (Input (how.End left)) e = (let bad : status.Words word ≡ status.WriteFault = e in cc)
@@ -169,7 +169,7 @@ word-is a b e = (let f = e in cc)
 pub call-words : (words : List (List ℕ)) (old new : DeskView) (word : ℕ) → CallsSwitch words old new (status.Words word) → IsFirstFault words word
 call-words words old new word (at_words other failed is fault says) = subst (IsFirstFault words) (word-is word other is) fault
 call-words words old new word (no_room is same) = absurd (let bad : status.Words word ≡ status.NoMemory = is in cc)
-call-words words old new word (at_plan given is buffer size switches) = absurd (plan-words buffer (plays_of given) (output_name given.output) old new word switches)
+call-words words old new word (at_plan given is buffer size switches) = absurd (plan-words given.resync buffer (plays_of given) (output_name given.output) old new word switches)
 
 -- ---- completeness
 

@@ -1,5 +1,9 @@
 -- The definitions of a call of `tsswitch`.
 pub mod PlayNames
+pub mod PlayLists
+pub mod LeftOut
+pub mod PlaySources
+pub mod PlayCuts
 pub mod Lines
 pub mod Switched
 pub mod Nexts

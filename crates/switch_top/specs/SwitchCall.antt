@@ -16,4 +16,4 @@ pub data CallsSwitch (words : List (List ℕ)) (old new : DeskView) (answer : Sw
   no_room : answer ≡ status.NoMemory → new ≡ old → CallsSwitch words old new answer
   -- the plays of the settings, over rings of some size
   at_plan : (given : Given) → read_of words ≡ Some given → (buffer : ℕ) → IsBuffer given.buffer buffer
-      → SwitchesPlan buffer (plays_of given) (output_name given.output) old new answer → CallsSwitch words old new answer
+      → SwitchesPlan given.resync buffer (plays_of given) (output_name given.output) old new answer → CallsSwitch words old new answer

@@ -1,12 +1,12 @@
 -- How a call ends after its plays: what is written, reported and returned. This project's own rule.
-use Rattle.std.specs.Prelude.{◌≡◌, ◌⊎◌, ℕ, ◌+◌, ◌-◌, ◌^◌, min, List, [], ◌∷◌, ◌++◌, length, take, drop, codes, Bool, true, false, ◌||◌, if◌then◌else◌, Option, None, Some, IfSome}
+use Rattle.std.specs.Prelude.{◌≡◌, ◌⊎◌, ℕ, ◌+◌, ◌-◌, ◌^◌, min, List, [], ◌∷◌, ◌++◌, length, take, drop, codes, Bool, true, false, ◌||◌, if◌then◌else◌, Option, None, Some}
 use Rattle.ts_packet.specs.declared.cell.Cell.{Cell}
 use Rattle.ts_outside.specs.Source.{SourceView}
 use Rattle.ts_outside.specs.Told.{grown}
 use Rattle.ts_outside.specs.Count.{HasCause}
 use Rattle.ts_outside.specs.declared.requests.Asked.{Asked}
 use Rattle.ts_outside.specs.declared.requests.Purpose.TheVariants as purpose
-use Rattle.ts_outside.specs.Desk.{DeskView, file_of, asked_well, asked_in_vain}
+use Rattle.ts_outside.specs.Desk.{DeskView, asked_well, asked_in_vain}
 use Rattle.ts_outside.specs.Saying.{Says}
 use Rattle.ts_outside.specs.Entries.{outputs_with}
 use Rattle.chain_model.specs.declared.input_end.InputEnd.TheVariants as how
@@ -14,11 +14,13 @@ use Rattle.chain_model.specs.Written.{written, IsPartOfFirst}
 use Rattle.chain_model.specs.Each.{Each}
 use Rattle.chain_plays.specs.declared.played.PlayEnd.{PlayEnd}
 use Rattle.chain_plays.specs.declared.played.PlayEnd.TheVariants.{Input, WriteFault}
-use Rattle.chain_plays.specs.PlayList.{play_of, EndsAs}
+use Rattle.chain_model.specs.Apply.{StageList}
+use Rattle.chain_plays.specs.PlayList.{EndsAs}
 use Rattle.switch_args.specs.SwitchWords.{Output, to_file, dropped}
 use Rattle.switch_top.specs.declared.status.SwitchStatus.{SwitchStatus}
 use Rattle.switch_top.specs.declared.status.SwitchStatus.TheVariants as status
 use Rattle.switch_top.specs.PlayNames.{PlayName}
+use Rattle.switch_top.specs.PlayLists.{IsListOf}
 use Rattle.switch_top.specs.Lines.{play_line, switch_end_line}
 use Rattle.switch_top.specs.PlaysAfter.{Behind, IsAfter, names_of, cells_of, lines_of, all_asked, asked_of, with_inputs, LastRead, AskedFirst}
 
@@ -54,24 +56,24 @@ IsPart cells n (Input how) part = part ≡ []
 IsPart cells n WriteFault part = IsPartOfFirst (drop n cells) part
 
 -- a call whose plays were played: `start` is the desk when the output was open
-pub record SwitchRan (buffer : ℕ) (names : List PlayName) (output : Option (List ℕ)) (start new : DeskView)
+pub record SwitchRan (resync : Bool) (buffer : ℕ) (names : List PlayName) (output : Option (List ℕ)) (start new : DeskView)
     (answer : SwitchStatus) : Type 0 where
   pub behind : List Behind
-  pub all : Each (IsAfter start) behind
+  pub all : Each (IsAfter resync start) behind
   pub input : ℕ
   pub name : List ℕ
   pub later : List PlayName
   pub names_are : names ≡ names_of behind ++ record { input = input; name = name } ∷ later
-  pub bytes : List ℕ
-  pub told : IfSome start.files (λ files. bytes ≡ file_of files name)
+  pub list : StageList
+  pub list_is : IsListOf resync start.files name list
   pub n : ℕ
   pub end : PlayEnd
-  pub ends : EndsAs (play_of bytes) n end
+  pub ends : EndsAs list n end
   pub plain_is_last : (left : ℕ) → end ≡ Input (how.End left) → later ≡ []
   pub part : List ℕ
-  pub part_is : IsPart (play_of bytes).cells n end part
+  pub part_is : IsPart list.cells n end part
   pub written_is : new.outputs ≡ outputs_with output start.outputs
-      (written (cells_of behind) ++ (written (take n (play_of bytes).cells) ++ part))
+      (written (cells_of behind) ++ (written (take n list.cells) ++ part))
   pub late : Bool
   pub closed : DeskView
   pub reported_before : closed.reported ≡ start.reported
@@ -84,24 +86,24 @@ pub record SwitchRan (buffer : ℕ) (names : List PlayName) (output : Option (Li
   pub ahead : List Asked
   pub asked : new.asked ≡ grown start.asked (all_asked behind ++ asked_of ok (record { input = input; name = name }) ∷ ahead)
   pub sources : List SourceView
-  pub last_read : LastRead buffer start behind name n end later ahead ok sources
+  pub last_read : LastRead resync buffer start behind name n end later ahead ok sources
   pub closed_in : new.closed_in ≡ with_inputs start.closed_in sources
   pub files : new.files ≡ start.files
   pub read_fault : end ≡ Input how.ReadFault → HasCause start.read_faults new.read_faults
 
 -- memory ran out while the plays were played: what was written begins what they write, and nothing is reported
-pub record SwitchWanted (names : List PlayName) (output : Option (List ℕ)) (start new : DeskView) (answer : SwitchStatus) : Type 0 where
+pub record SwitchWanted (resync : Bool) (names : List PlayName) (output : Option (List ℕ)) (start new : DeskView) (answer : SwitchStatus) : Type 0 where
   pub answer_is : answer ≡ status.NoMemory
   pub behind : List Behind
-  pub all : Each (IsAfter start) behind
+  pub all : Each (IsAfter resync start) behind
   pub later : List PlayName
   pub names_are : names ≡ names_of behind ++ later
   -- of the next play some packets may have been written
   pub more : List Cell
   pub n : ℕ
   pub end : PlayEnd
-  pub of_next : (more ≡ []) ⊎ ((play : PlayName) × (rest : List PlayName) × (bytes : List ℕ) × (later ≡ play ∷ rest)
-      × IfSome start.files (λ files. bytes ≡ file_of files play.name) × (more ≡ (play_of bytes).cells) × EndsAs (play_of bytes) n end)
+  pub of_next : (more ≡ []) ⊎ ((play : PlayName) × (rest : List PlayName) × (list : StageList) × (later ≡ play ∷ rest)
+      × IsListOf resync start.files play.name list × (more ≡ list.cells) × EndsAs list n end)
   pub part : List ℕ
   pub part_is : IsPart more n end part
   pub written_is : new.outputs ≡ outputs_with output start.outputs (written (cells_of behind) ++ (written (take n more) ++ part))
@@ -122,13 +124,13 @@ opened_as desk None = desk
 opened_as desk (Some name) = asked_well desk purpose.Output name
 
 -- a call from its plan on
-pub data SwitchesPlan (buffer : ℕ) (names : List PlayName) (output : Option (List ℕ)) (old new : DeskView)
+pub data SwitchesPlan (resync : Bool) (buffer : ℕ) (names : List PlayName) (output : Option (List ℕ)) (old new : DeskView)
     (answer : SwitchStatus) : Type 0 where
   -- the output was not opened
   no_output : (name : List ℕ) → (failed : Bool) → output ≡ Some name → answer ≡ status.WriteFault
       → Says (asked_in_vain old purpose.Output name) new (codes "tsswitch: cannot open output" ++ 10 ∷ []) failed
-      → SwitchesPlan buffer names output old new answer
+      → SwitchesPlan resync buffer names output old new answer
   -- memory ran out before anything was asked for
-  out_of_memory : answer ≡ status.NoMemory → new ≡ old → SwitchesPlan buffer names output old new answer
-  wanted : SwitchWanted names output (opened_as old output) new answer → SwitchesPlan buffer names output old new answer
-  ran : SwitchRan buffer names output (opened_as old output) new answer → SwitchesPlan buffer names output old new answer
+  out_of_memory : answer ≡ status.NoMemory → new ≡ old → SwitchesPlan resync buffer names output old new answer
+  wanted : SwitchWanted resync names output (opened_as old output) new answer → SwitchesPlan resync buffer names output old new answer
+  ran : SwitchRan resync buffer names output (opened_as old output) new answer → SwitchesPlan resync buffer names output old new answer

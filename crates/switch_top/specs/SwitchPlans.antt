@@ -18,5 +18,6 @@ plays_of given = rows_of (unwrap_or given.cycle 1) given.inputs
 pub record IsPlanOf (given : Given) (plan : SwitchPlan) : Type 0 where
   pub cycle : plan.cycle ≡ unwrap_or given.cycle 1
   pub buffer : IsBuffer given.buffer plan.buffer
+  pub resync : plan.resync ≡ given.resync
   pub inputs : plan.inputs.items ≡ given.inputs
   pub output : output_of plan.output ≡ given.output

@@ -15,11 +15,12 @@ use Rattle.chain_model.specs.declared.input_end.InputEnd.TheVariants as how
 use Rattle.chain_model.specs.InputRead.{list_at_fault}
 use Rattle.chain_plays.specs.declared.played.PlayEnd.{PlayEnd}
 use Rattle.chain_plays.specs.declared.played.PlayEnd.TheVariants.{Input, WriteFault}
-use Rattle.chain_plays.specs.PlayList.{play_of, EndsAs}
+use Rattle.chain_plays.specs.PlayList.{EndsAs}
 use Rattle.switch_args.specs.SwitchWords.{Given}
 use Rattle.switch_top.specs.declared.status.SwitchStatus.{SwitchStatus}
 use Rattle.switch_top.specs.declared.status.SwitchStatus.TheVariants as status
 use Rattle.switch_top.specs.PlayNames.{PlayName}
+use Rattle.switch_top.specs.PlayLists.{list_of}
 use Rattle.switch_top.specs.Lines.{play_line, switch_end_line}
 use Rattle.switch_top.specs.Switched.{PlayList, lists_of, is_plain, played, switched, end_of_list, line_of, last_of, switched_report}
 use Rattle.switch_top.specs.PlaysAfter.{asked_of, with_inputs}
@@ -28,7 +29,7 @@ use Rattle.switch_top.specs.SwitchPlans.{plays_of}
 
 -- the plays of settings, over the bytes of files
 abbrev pub lists_given : Given → List (List ℕ × List ℕ) → List PlayList
-lists_given given files = lists_of files (plays_of given)
+lists_given given files = lists_of given.resync files (plays_of given)
 
 -- the status of plays that are played to their ends: that of the last one
 abbrev pub status_of_plays : List PlayList → SwitchStatus
@@ -89,16 +90,22 @@ abbrev pub report_to : List PlayList → ℕ → ℕ → PlayEnd → List ℕ
 report_to behind input n end =
     flat_map line_of behind ++ (play_line input n end ++ switch_end_line input end (length (packets_of behind) + n))
 
+-- how many packets come of what was read before the read that failed: those in it; where packets are found again, the bytes
+-- that were read last may not have decided where they are
+abbrev pub CountsRead : Bool → List ℕ → ℕ → Type 0
+CountsRead true read n = Unit {0}
+CountsRead false read n = n ≡ length (list_at_fault no_stuffing read).cells
+
 -- a play that ends by a read fault could not be opened: it was asked for last, and then it gave nothing, and only the plays
 -- before it had sources to close. Or it was opened, and gave the packets of what was read before the read that failed, which is
 -- its file without the bytes that its source had still to come when it was closed; after it one play was asked for at most
-abbrev pub GivesRead : Option (List ℕ) → List ℕ → DeskView → DeskView → List PlayName → PlayName → ℕ → Type 0
-GivesRead output file old new behind play n =
+abbrev pub GivesRead : Bool → Option (List ℕ) → List ℕ → DeskView → DeskView → List PlayName → PlayName → ℕ → Type 0
+GivesRead resync output file old new behind play n =
     ((sources : List SourceView) × (n ≡ 0) × (length sources ≡ length behind)
     × (new.asked ≡ grown (opened_as old output).asked (map (asked_of true) behind ++ asked_of false play ∷ []))
     × (new.closed_in ≡ with_inputs (opened_as old output).closed_in sources))
     ⊎ ((read : List ℕ) × (left : List ℕ) × (before : List SourceView) × (made : SourceView) × (more : List SourceView) × (ahead : List Asked)
-    × (file ≡ read ++ left) × (n ≡ length (list_at_fault no_stuffing read).cells) × (made.left ≡ Some left) × (0 < made.faults)
+    × (file ≡ read ++ left) × CountsRead resync read n × (made.left ≡ Some left) × (0 < made.faults)
     × (length before ≡ length behind) × (length more ≤ 1) × (length ahead ≤ 1)
     × (new.asked ≡ grown (opened_as old output).asked (map (asked_of true) behind ++ asked_of true play ∷ ahead))
     × (new.closed_in ≡ with_inputs (opened_as old output).closed_in (before ++ made ∷ more)))
@@ -106,22 +113,22 @@ GivesRead output file old new behind play n =
 -- these plays end plainly, and the one after them is the last that was played: it gave so many packets, and ended so. These
 -- packets are written, after a failed write also a part of the next one; and that is reported, or a report failed after a
 -- first part of it
-pub record EndsIn (files : List (List ℕ × List ℕ)) (names : List PlayName) (output : Option (List ℕ)) (old new : DeskView)
+pub record EndsIn (resync : Bool) (files : List (List ℕ × List ℕ)) (names : List PlayName) (output : Option (List ℕ)) (old new : DeskView)
     (end : PlayEnd) : Type 0 where
   pub behind : List PlayName
   pub play : PlayName
   pub later : List PlayName
   pub names_are : names ≡ behind ++ play ∷ later
-  pub plain : AllEndPlainly (lists_of files behind)
+  pub plain : AllEndPlainly (lists_of resync files behind)
   pub n : ℕ
-  pub ends : EndsAs (play_of (file_of files play.name)) n end
+  pub ends : EndsAs (list_of resync (file_of files play.name)) n end
   pub plain_is_last : (left : ℕ) → end ≡ Input (how.End left) → later ≡ []
   pub part : List ℕ
-  pub part_is : IsPart (play_of (file_of files play.name)).cells n end part
+  pub part_is : IsPart (list_of resync (file_of files play.name)).cells n end part
   pub written_is : new.outputs ≡ outputs_with output old.outputs
-      (written (packets_of (lists_of files behind)) ++ (written (take n (play_of (file_of files play.name)).cells) ++ part))
-  pub reported_is : ReportsText old new (report_to (lists_of files behind) play.input n end)
-  pub read : end ≡ Input how.ReadFault → GivesRead output (file_of files play.name) old new behind play n
+      (written (packets_of (lists_of resync files behind)) ++ (written (take n (list_of resync (file_of files play.name)).cells) ++ part))
+  pub reported_is : ReportsText old new (report_to (lists_of resync files behind) play.input n end)
+  pub read : end ≡ Input how.ReadFault → GivesRead resync output (file_of files play.name) old new behind play n
 
 -- an output was asked for and could not be opened; that is all that is reported
 abbrev pub MissesOutput : Option (List ℕ) → DeskView → DeskView → Type 0
@@ -135,17 +142,17 @@ MayFailLate WriteFault = Unit {0}
 MayFailLate _ = ⊥
 
 -- what each status says of the plays: the end of the last one that was played is that of the status, and no other
-abbrev pub StatusTells : List (List ℕ × List ℕ) → List PlayName → Option (List ℕ) → DeskView → DeskView → SwitchStatus → Type 0
-StatusTells files names output old new status.Done =
-    AllEndPlainly (lists_of files names) × ((left : ℕ) × EndsIn files names output old new (Input (how.End left)))
-StatusTells files names output old new status.NoMemory = Unit {0}
-StatusTells files names output old new (status.Words word) = ⊥
-StatusTells files names output old new status.ReadFault = EndsIn files names output old new (Input how.ReadFault)
-StatusTells files names output old new status.WriteFault =
-    MissesOutput output old new ⊎ ((end : PlayEnd) × MayFailLate end × EndsIn files names output old new end)
-StatusTells files names output old new (status.Sync input packet) =
-    (ends : EndsIn files names output old new (Input (how.Sync packet))) × (input ≡ ends.play.input)
-StatusTells files names output old new status.TooLong = EndsIn files names output old new (Input how.TooLong)
+abbrev pub StatusTells : Bool → List (List ℕ × List ℕ) → List PlayName → Option (List ℕ) → DeskView → DeskView → SwitchStatus → Type 0
+StatusTells resync files names output old new status.Done =
+    AllEndPlainly (lists_of resync files names) × ((left : ℕ) × EndsIn resync files names output old new (Input (how.End left)))
+StatusTells resync files names output old new status.NoMemory = Unit {0}
+StatusTells resync files names output old new (status.Words word) = ⊥
+StatusTells resync files names output old new status.ReadFault = EndsIn resync files names output old new (Input how.ReadFault)
+StatusTells resync files names output old new status.WriteFault =
+    MissesOutput output old new ⊎ ((end : PlayEnd) × MayFailLate end × EndsIn resync files names output old new end)
+StatusTells resync files names output old new (status.Sync input packet) =
+    (ends : EndsIn resync files names output old new (Input (how.Sync packet))) × (input ≡ ends.play.input)
+StatusTells resync files names output old new status.TooLong = EndsIn resync files names output old new (Input how.TooLong)
 
 -- the status gives the first faulty word and the line is reported; nothing was opened
 abbrev pub RefusesWords : ℕ → DeskView → DeskView → SwitchStatus → Type 0

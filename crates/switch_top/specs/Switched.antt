@@ -8,8 +8,8 @@ use Rattle.chain_model.specs.declared.input_end.InputEnd.TheVariants.{End}
 use Rattle.chain_model.specs.Apply.{StageList, OwnEnd, input_over}
 use Rattle.chain_plays.specs.declared.played.PlayEnd.{PlayEnd}
 use Rattle.chain_plays.specs.declared.played.PlayEnd.TheVariants.{Input, WriteFault}
-use Rattle.chain_plays.specs.PlayList.{play_of}
 use Rattle.switch_top.specs.PlayNames.{PlayName}
+use Rattle.switch_top.specs.PlayLists.{list_of}
 use Rattle.switch_top.specs.Lines.{play_line, switch_end_line}
 
 -- a play: the number of its input, counted from 1, and the list of its file's packets
@@ -17,9 +17,9 @@ pub record PlayList : Type 0 where
   pub input : ℕ
   pub list : StageList
 
--- the plays of these names, over the bytes of files
-abbrev pub lists_of : List (List ℕ × List ℕ) → List PlayName → List PlayList
-lists_of files names = map (λ (p : PlayName). record { input = p.input; list = play_of (file_of files p.name) }) names
+-- the plays of these names, over the bytes of files, in which packets are found again or are at their places
+abbrev pub lists_of : Bool → List (List ℕ × List ℕ) → List PlayName → List PlayList
+lists_of resync files names = map (λ (p : PlayName). record { input = p.input; list = list_of resync (file_of files p.name) }) names
 
 -- the list ends plainly
 abbrev pub is_plain : Option OwnEnd → Bool

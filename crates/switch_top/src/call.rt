@@ -18,7 +18,8 @@ use ts_outside::{Desk, Gate, say};
 
 /// Plays inputs one after another, as the words of a command line ask for, given without the program's name.
 ///
-/// The words are those of `switch_args::read_words`. The output is opened first, then the first input; after that each
+/// The words are those of `switch_args::read_words`. With `--resync` the packets of each input are found again in bytes with
+/// damage, and no play of a file ends by lost sync; without it they are at their places. The output is opened first, then the first input; after that each
 /// further play is opened when the play before it begins, and read into a ring of its own while that one is written. The
 /// whole row of inputs is played as often as the words say, up to the first play that does not end plainly. Then the
 /// output is closed, and one line for each play that was played and the end line are reported. Of the statuses

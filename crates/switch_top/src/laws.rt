@@ -1,11 +1,11 @@
 //! What follows from the contract of `switch_call`, in terms of the switched list. Laws; they run nothing.
-ghost use Rattle.std.specs.Prelude.{◌≡◌, ◌⊎◌, ℕ, List, Some};
+ghost use Rattle.std.specs.Prelude.{◌≡◌, ◌⊎◌, ◌*◌, ◌^◌, ◌≤◌, ℕ, List, Some, length, true};
 ghost use Rattle.ts_outside.specs.Count.{HasCause};
-ghost use Rattle.ts_outside.specs.Desk.{DeskView};
+ghost use Rattle.ts_outside.specs.Desk.{DeskView, file_of};
 ghost use Rattle.ts_outside.specs.Faultless.{NothingFails};
 ghost use Rattle.switch_args.specs.SwitchWords.{Given, read_of, IsFirstFault};
 ghost use Rattle.switch_top.specs.declared.status.SwitchStatus.{SwitchStatus};
-ghost use Rattle.switch_top.specs.declared.status.SwitchStatus.TheVariants.{Done, NoMemory, Words, ReadFault, WriteFault};
+ghost use Rattle.switch_top.specs.declared.status.SwitchStatus.TheVariants.{Done, NoMemory, Words, ReadFault, WriteFault, Sync};
 ghost use Rattle.switch_top.specs.SwitchCall.{CallsSwitch};
 ghost use Rattle.switch_top.specs.SwitchEnds.{output_name, opened_as};
 ghost use Rattle.switch_top.specs.SwitchPlans.{plays_of};
@@ -80,7 +80,20 @@ pub fn switched_complete()
 pub fn switched_ends()
     ensures { (words : List (List ℕ)) (given : Given) (files : List (List ℕ × List ℕ)) (old new : DeskView) (answer : SwitchStatus)
         → read_of words ≡ Some given → old.files ≡ Some files → CallsSwitch words old new answer
-        → StatusTells files (plays_of given) (output_name given.output) old new answer }
+        → StatusTells given.resync files (plays_of given) (output_name given.output) old new answer }
+{
+    first_fault_law();
+    words_read_back();
+}
+
+/// Where packets are found again, no play of a known file ends by lost sync; and every play ends plainly where no file has
+/// more bytes than 2^60 packets have. So then only a fault outside ends the plays before the last one.
+pub fn switched_found()
+    ensures in_sync { (words : List (List ℕ)) (given : Given) (files : List (List ℕ × List ℕ)) (old new : DeskView) (input packet : ℕ)
+        → read_of words ≡ Some given → given.resync ≡ true → old.files ≡ Some files
+        → CallsSwitch words old new (Sync input packet) → ⊥ }
+    ensures plain { (given : Given) (files : List (List ℕ × List ℕ)) → given.resync ≡ true
+        → ((name : List ℕ) → length (file_of files name) ≤ 188 * 2 ^ 60) → AllEndPlainly (lists_given given files) }
 {
     first_fault_law();
     words_read_back();

@@ -19,6 +19,8 @@ pub struct SwitchPlan {
     pub cycle: u64,
     /// How many packets each ring has, from 1 to 1,000,000.
     pub buffer: usize,
+    /// Whether the packets of each input are found again in bytes with damage.
+    pub resync: bool,
     /// The names of the inputs, from 1 to 32.
     pub inputs: Vec<NameText>,
     /// The output.
@@ -57,12 +59,14 @@ impl SwitchPlan {
         let SwitchSettings {
             cycle,
             buffer,
+            resync,
             inputs,
             output,
         } = settings;
         SwitchPlan {
             cycle: given_or(cycle, 1, 1000),
             buffer: given_or(buffer, DEFAULT_BUFFER, 1_000_000) as usize,
+            resync,
             inputs,
             output,
         }

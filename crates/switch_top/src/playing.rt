@@ -14,19 +14,21 @@ ghost use Rattle.switch_args.specs.Readings.{output_of};
 use crate::ending::finish_plays;
 use crate::lines::push_line;
 use crate::plan::{BATCH, SwitchPlan};
+use crate::play_source::PlaySource;
+use crate::played_cut::{PlayedCut, PlayedEnd};
 use crate::plays_left::PlaysLeft;
 use crate::status::SwitchStatus;
 use crate::stepping::{AllPlayed, Switched, Switching, play_all};
 use crate::switching::{NextPlay, open_next};
-use chain_core::{CorePlan, InputEnd, StageSet};
-use chain_plays::{AheadPlay, NoPlugin, OpenPlay, PlayCut, PlayEnd};
+use chain_core::{CorePlan, StageSet};
+use chain_plays::{AheadPlay, NoPlugin, OpenPlay};
 use stage_run::OutputPart;
 use std::alloc::{AllocError, Global};
 use std::marker::Sync;
 use std::sync::Wait;
 use std::thread::Threads;
 use switch_args::SwitchOutput;
-use ts_outside::{Desk, Gate, OpenFault, say};
+use ts_outside::{Desk, Gate, OpenFault, Source, say};
 
 /// Opens the first input and plays it, and those after it.
 fn play_from_first<R: Threads + Wait + Sync, D: Desk, G: Gate>(
@@ -42,7 +44,8 @@ fn play_from_first<R: Threads + Wait + Sync, D: Desk, G: Gate>(
     requires cycle { plan.now.cycle ≤ 1000 }
     requires buffer { (1 ≤ plan.now.buffer) × (plan.now.buffer ≤ 1000000) }
     ensures { (core : CorePlan) × (core.buffer ≡ plan.now.buffer)
-        × AreAllPlayed (kind_of D.In.seen D.Out.seen ⟦<AheadPlay<D::In, D::Out, NoPlugin> as OpenPlay<D::In>>⟧.is_open) core
+        × AreAllPlayed (kind_of plan.now.resync ⟦<PlaySource<D::In> as Source>⟧.seen D.Out.seen
+        ⟦<AheadPlay<PlaySource<D::In>, D::Out, NoPlugin> as OpenPlay<PlaySource<D::In>>>⟧.is_open) core
         plan.now.inputs.items (rows_of plan.now.cycle plan.now.inputs.items)
         (D.seen desk.old) output result (D.seen desk.new) }
 {
@@ -58,7 +61,7 @@ fn play_from_first<R: Threads + Wait + Sync, D: Desk, G: Gate>(
         rows: plan.cycle,
     };
     let mut text = String::new(alloc);
-    match open_next(alloc, desk, &core, inputs, &mut left) {
+    match open_next(alloc, desk, &core, plan.resync, inputs, &mut left) {
         Ok(NextPlay::NoMore) => AllPlayed::Wants(output),
         Ok(NextPlay::Open { input, play }) => play_all(
             rt,
@@ -66,6 +69,7 @@ fn play_from_first<R: Threads + Wait + Sync, D: Desk, G: Gate>(
             gate,
             desk,
             &core,
+            plan.resync,
             inputs,
             Switching {
                 left,
@@ -77,9 +81,9 @@ fn play_from_first<R: Threads + Wait + Sync, D: Desk, G: Gate>(
             },
         ),
         Ok(NextPlay::Failed { input }) => {
-            let cut = PlayCut {
+            let cut = PlayedCut {
                 count: 0,
-                end: PlayEnd::Input(InputEnd::ReadFault),
+                end: PlayedEnd::ReadFault,
             };
             if push_line(&mut text, alloc, input, &cut).is_err() {
                 return AllPlayed::Wants(output);
@@ -123,13 +127,13 @@ pub fn switch_plan<R: Threads + Wait + Sync, D: Desk, G: Gate>(
     requires few { length plan.now.inputs.items ≤ 32 }
     requires cycle { plan.now.cycle ≤ 1000 }
     requires buffer { (1 ≤ plan.now.buffer) × (plan.now.buffer ≤ 1000000) }
-    ensures { SwitchesPlan plan.now.buffer (rows_of plan.now.cycle plan.now.inputs.items) (output_name (output_of plan.now.output))
+    ensures { SwitchesPlan plan.now.resync plan.now.buffer (rows_of plan.now.cycle plan.now.inputs.items) (output_name (output_of plan.now.output))
         (D.seen desk.old) (D.seen desk.new) result }
 {
     match open_output(desk, &plan.output) {
         Ok(output) => {
             let played = play_from_first(rt, alloc, gate, desk, plan, output);
-            finish_plays::<D, AheadPlay<D::In, D::Out, NoPlugin>>(alloc, desk, played)
+            finish_plays::<D, AheadPlay<PlaySource<D::In>, D::Out, NoPlugin>>(alloc, desk, played)
         }
         Err(OpenFault::Failed) => {
             say(desk, "tsswitch: cannot open output\n");

@@ -1,10 +1,10 @@
 //! How a call of `tsswitch` ended.
 ghost use Rattle.std.specs.Prelude.{◌≡◌, ◌-◌, ◌^◌, min, if◌then◌else◌};
+ghost use Rattle.switch_top.specs.PlayCuts.{end_of};
 ghost use Rattle.switch_top.specs.SwitchEnds.{status_of, when_late};
 ghost use Rattle.switch_top.specs.SwitchExit.{exit_number};
 
-use chain_core::InputEnd;
-use chain_plays::PlayEnd;
+use crate::played_cut::PlayedEnd;
 
 /// How a call of `tsswitch` ended.
 #[derive(Debug, Clone, Copy, PartialEq, Eq)]
@@ -44,18 +44,18 @@ impl SwitchStatus {
 }
 
 /// The status of the last play's end.
-pub(crate) fn status_of(input: usize, end: PlayEnd) -> SwitchStatus
-    ensures { result ≡ status_of input end }
+pub(crate) fn status_of(input: usize, end: PlayedEnd) -> SwitchStatus
+    ensures { result ≡ status_of input (end_of end) }
 {
     match end {
-        PlayEnd::Input(InputEnd::End { left: _ }) => SwitchStatus::Done,
-        PlayEnd::Input(InputEnd::Sync { packet }) => SwitchStatus::Sync {
+        PlayedEnd::Plain { left_out: _ } => SwitchStatus::Done,
+        PlayedEnd::Sync { packet } => SwitchStatus::Sync {
             input: u32::try_from(input).unwrap_or(u32::MAX),
             packet,
         },
-        PlayEnd::Input(InputEnd::ReadFault) => SwitchStatus::ReadFault,
-        PlayEnd::Input(InputEnd::TooLong) => SwitchStatus::TooLong,
-        PlayEnd::WriteFault => SwitchStatus::WriteFault,
+        PlayedEnd::ReadFault => SwitchStatus::ReadFault,
+        PlayedEnd::TooLong => SwitchStatus::TooLong,
+        PlayedEnd::WriteFault => SwitchStatus::WriteFault,
     }
 }
 

@@ -1,10 +1,11 @@
 //! One play after another.
-ghost use Rattle.std.specs.Prelude.{◌≡◌, ◌+◌, ◌<◌, ◌≤◌, ◌^◌, ◌*◌, ℕ, suc, length, List};
+ghost use Rattle.std.specs.Prelude.{◌≡◌, ◌+◌, ◌<◌, ◌≤◌, ◌^◌, ◌*◌, ℕ, suc, length, List, Bool};
 ghost use Rattle.std.specs.String.{string_bytes};
 ghost use Rattle.chain_core.specs.declared.core_plan.CorePlan.{CorePlan};
 ghost use Rattle.chain_core.specs.CoreNumbers.{IsValidPlan};
 ghost use Rattle.stage_run.specs.declared.output_part.OutputPart.{OutputPart};
 ghost use Rattle.ts_outside.specs.Desk.{DeskView};
+ghost use Rattle.switch_top.specs.PlayCuts.{end_of};
 ghost use Rattle.switch_top.specs.PlayNames.{PlayName, plays_left};
 ghost use Rattle.switch_top.specs.Nexts.{kind_of, CanPlay};
 ghost use Rattle.switch_top.specs.declared.plays_left.PlaysLeft.{PlaysLeft};
@@ -13,10 +14,12 @@ ghost use Rattle.chain_plays.specs.declared.played.PlayEnd.TheVariants.{Input};
 ghost use Rattle.chain_model.specs.declared.input_end.InputEnd.TheVariants.{End};
 
 use crate::lines::push_line;
+use crate::play_source::{ClosedPlay, PlaySource, close_play, into_own};
+use crate::played_cut::{PlayedCut, PlayedEnd};
 use crate::plays_left::PlaysLeft;
-use crate::switching::{NextPlay, abandon_next, open_next, play_ahead};
-use chain_core::{CorePlan, InputEnd};
-use chain_plays::{AheadPlay, NoPlugin, OpenPlay, PlayCut, PlayEnd, PlayedOut};
+use crate::switching::{NextPlay, abandon_next, leave_play, open_next, play_ahead};
+use chain_core::CorePlan;
+use chain_plays::{AheadPlay, NoPlugin, OpenPlay, PlayedOut};
 use plugin_trait::Plugin;
 use stage_run::OutputPart;
 use std::alloc::{AllocError, Global};
@@ -51,7 +54,7 @@ pub(crate) struct Present<A, K> {
     pub(crate) input: usize,
     pub(crate) next: NextPlay<A>,
     pub(crate) output: OutputPart<K>,
-    pub(crate) cut: PlayCut,
+    pub(crate) cut: PlayedCut,
     pub(crate) count: u128,
     pub(crate) text: String,
 }
@@ -62,7 +65,7 @@ pub(crate) struct Switched<K> {
     pub(crate) count: u128,
     pub(crate) text: String,
     pub(crate) input: usize,
-    pub(crate) end: PlayEnd,
+    pub(crate) end: PlayedEnd,
 }
 
 /// The result of one step.
@@ -74,9 +77,9 @@ pub(crate) enum Flow<A, K> {
 }
 
 /// The result where the play could not be opened: it has given nothing.
-const NOTHING: PlayCut = PlayCut {
+const NOTHING: PlayedCut = PlayedCut {
     count: 0,
-    end: PlayEnd::Input(InputEnd::ReadFault),
+    end: PlayedEnd::ReadFault,
 };
 
 /// Goes on after a play that ended plainly: with the next one, if there is one.
@@ -84,15 +87,15 @@ fn begin_next<S: Source, A: OpenPlay<S>, K: Sink>(
     alloc: Global,
     present: Present<A, K>,
 ) -> Flow<A, K>
-    requires counted { (core : CorePlan) × (inputs : List (List ℕ)) × (names : List PlayName) × (start : DeskView)
+    requires counted { (resync : Bool) × (core : CorePlan) × (inputs : List (List ℕ)) × (names : List PlayName) × (start : DeskView)
         × (first : OutputPart K) × (desk : DeskView)
-        × IsCounted (kind_of S.seen K.seen A.is_open) core inputs names start first present desk }
-    requires plain { (left : ℕ) × (present.cut.end ≡ Input (End left)) }
-    ensures { (core : CorePlan) (inputs : List (List ℕ)) (names : List PlayName) (start : DeskView) (first : OutputPart K)
+        × IsCounted (kind_of resync S.seen K.seen A.is_open) core inputs names start first present desk }
+    requires plain { (left : ℕ) × (end_of present.cut.end ≡ Input (End left)) }
+    ensures { (resync : Bool) (core : CorePlan) (inputs : List (List ℕ)) (names : List PlayName) (start : DeskView) (first : OutputPart K)
         (desk : DeskView)
-        → (left_before : PlaysLeft) → IsCounted (kind_of S.seen K.seen A.is_open) core inputs names start first present desk
+        → (left_before : PlaysLeft) → IsCounted (kind_of resync S.seen K.seen A.is_open) core inputs names start first present desk
         → TakesNext inputs left_before present.left present.next
-        → Steps (kind_of S.seen K.seen A.is_open) core inputs names start first left_before result desk }
+        → Steps (kind_of resync S.seen K.seen A.is_open) core inputs names start first left_before result desk }
 {
     let Present {
         left,
@@ -135,18 +138,18 @@ fn begin_next<S: Source, A: OpenPlay<S>, K: Sink>(
 }
 
 /// Ends the plays after one that did not end plainly.
-fn end_here<R: Wait, D: Desk, A: OpenPlay<D::In>>(
+fn end_here<R: Wait, D: Desk, A: OpenPlay<PlaySource<D::In>>>(
     rt: &R,
     desk: &mut D,
     present: Present<A, D::Out>,
 ) -> Flow<A, D::Out>
-    requires counted { (core : CorePlan) × (inputs : List (List ℕ)) × (names : List PlayName) × (start : DeskView)
-        × (first : OutputPart D.Out) × IsCounted (kind_of D.In.seen D.Out.seen A.is_open) core inputs names start first present
+    requires counted { (resync : Bool) × (core : CorePlan) × (inputs : List (List ℕ)) × (names : List PlayName) × (start : DeskView)
+        × (first : OutputPart D.Out) × IsCounted (kind_of resync ⟦<PlaySource<D::In> as Source>⟧.seen D.Out.seen A.is_open) core inputs names start first present
         (D.seen desk.old) }
-    requires other { (left : ℕ) → present.cut.end ≡ Input (End left) → ⊥ }
-    ensures { (core : CorePlan) (inputs : List (List ℕ)) (names : List PlayName) (start : DeskView) (first : OutputPart D.Out)
-        → IsCounted (kind_of D.In.seen D.Out.seen A.is_open) core inputs names start first present (D.seen desk.old)
-        → (left : PlaysLeft) → Steps (kind_of D.In.seen D.Out.seen A.is_open) core inputs names start first left result (D.seen desk.new) }
+    requires other { (left : ℕ) → end_of present.cut.end ≡ Input (End left) → ⊥ }
+    ensures { (resync : Bool) (core : CorePlan) (inputs : List (List ℕ)) (names : List PlayName) (start : DeskView) (first : OutputPart D.Out)
+        → IsCounted (kind_of resync ⟦<PlaySource<D::In> as Source>⟧.seen D.Out.seen A.is_open) core inputs names start first present (D.seen desk.old)
+        → (left : PlaysLeft) → Steps (kind_of resync ⟦<PlaySource<D::In> as Source>⟧.seen D.Out.seen A.is_open) core inputs names start first left result (D.seen desk.new) }
 {
     let Present {
         left: _,
@@ -168,45 +171,47 @@ fn end_here<R: Wait, D: Desk, A: OpenPlay<D::In>>(
 }
 
 /// Counts the packets of the play and adds its line; then the next one begins, or the plays are over.
-fn go_on<R: Wait, D: Desk, A: OpenPlay<D::In>>(
+fn go_on<R: Wait, D: Desk, A: OpenPlay<PlaySource<D::In>>>(
     rt: &R,
     alloc: Global,
     desk: &mut D,
     present: Present<A, D::Out>,
 ) -> Flow<A, D::Out>
-    requires { (core : CorePlan) × (inputs : List (List ℕ)) × (names : List PlayName) × (start : DeskView) × (first : OutputPart D.Out)
-        × IsCounted (kind_of D.In.seen D.Out.seen A.is_open) core inputs names start first present (D.seen desk.old) }
-    ensures { (core : CorePlan) (inputs : List (List ℕ)) (names : List PlayName) (start : DeskView) (first : OutputPart D.Out)
+    requires { (resync : Bool) × (core : CorePlan) × (inputs : List (List ℕ)) × (names : List PlayName) × (start : DeskView) × (first : OutputPart D.Out)
+        × IsCounted (kind_of resync ⟦<PlaySource<D::In> as Source>⟧.seen D.Out.seen A.is_open) core inputs names start first present (D.seen desk.old) }
+    ensures { (resync : Bool) (core : CorePlan) (inputs : List (List ℕ)) (names : List PlayName) (start : DeskView) (first : OutputPart D.Out)
         (left_before : PlaysLeft)
-        → IsCounted (kind_of D.In.seen D.Out.seen A.is_open) core inputs names start first present (D.seen desk.old)
+        → IsCounted (kind_of resync ⟦<PlaySource<D::In> as Source>⟧.seen D.Out.seen A.is_open) core inputs names start first present (D.seen desk.old)
         → TakesNext inputs left_before present.left present.next
-        → Steps (kind_of D.In.seen D.Out.seen A.is_open) core inputs names start first left_before result (D.seen desk.new) }
+        → Steps (kind_of resync ⟦<PlaySource<D::In> as Source>⟧.seen D.Out.seen A.is_open) core inputs names start first left_before result (D.seen desk.new) }
 {
     match present.cut.end {
-        PlayEnd::Input(InputEnd::End { left: _ }) => begin_next::<D::In, A, D::Out>(alloc, present),
-        PlayEnd::Input(InputEnd::Sync { packet: _ }) => end_here(rt, desk, present),
-        PlayEnd::Input(InputEnd::ReadFault) => end_here(rt, desk, present),
-        PlayEnd::Input(InputEnd::TooLong) => end_here(rt, desk, present),
-        PlayEnd::WriteFault => end_here(rt, desk, present),
+        PlayedEnd::Plain { left_out: _ } => {
+            begin_next::<PlaySource<D::In>, A, D::Out>(alloc, present)
+        }
+        PlayedEnd::Sync { packet: _ } => end_here(rt, desk, present),
+        PlayedEnd::ReadFault => end_here(rt, desk, present),
+        PlayedEnd::TooLong => end_here(rt, desk, present),
+        PlayedEnd::WriteFault => end_here(rt, desk, present),
     }
 }
 
 /// Counts the packets of the play at hand and adds its line to the report.
-fn say_play<R: Wait, D: Desk, A: OpenPlay<D::In>>(
+fn say_play<R: Wait, D: Desk, A: OpenPlay<PlaySource<D::In>>>(
     rt: &R,
     alloc: Global,
     desk: &mut D,
     present: Present<A, D::Out>,
 ) -> Flow<A, D::Out>
-    requires { (core : CorePlan) × (inputs : List (List ℕ)) × (names : List PlayName) × (start : DeskView) × (first : OutputPart D.Out)
-        × IsPresent (kind_of D.In.seen D.Out.seen A.is_open) core inputs names start first present present.count
+    requires { (resync : Bool) × (core : CorePlan) × (inputs : List (List ℕ)) × (names : List PlayName) × (start : DeskView) × (first : OutputPart D.Out)
+        × IsPresent (kind_of resync ⟦<PlaySource<D::In> as Source>⟧.seen D.Out.seen A.is_open) core inputs names start first present present.count
         (string_bytes present.text) (D.seen desk.old) }
-    ensures { (core : CorePlan) (inputs : List (List ℕ)) (names : List PlayName) (start : DeskView) (first : OutputPart D.Out)
+    ensures { (resync : Bool) (core : CorePlan) (inputs : List (List ℕ)) (names : List PlayName) (start : DeskView) (first : OutputPart D.Out)
         (left_before : PlaysLeft)
-        → IsPresent (kind_of D.In.seen D.Out.seen A.is_open) core inputs names start first present present.count
+        → IsPresent (kind_of resync ⟦<PlaySource<D::In> as Source>⟧.seen D.Out.seen A.is_open) core inputs names start first present present.count
         (string_bytes present.text) (D.seen desk.old)
         → TakesNext inputs left_before present.left present.next
-        → Steps (kind_of D.In.seen D.Out.seen A.is_open) core inputs names start first left_before result (D.seen desk.new) }
+        → Steps (kind_of resync ⟦<PlaySource<D::In> as Source>⟧.seen D.Out.seen A.is_open) core inputs names start first left_before result (D.seen desk.new) }
 {
     let Present {
         left,
@@ -243,19 +248,19 @@ fn say_play<R: Wait, D: Desk, A: OpenPlay<D::In>>(
 }
 
 /// Closes the source of the play that was played, and goes on.
-fn close_played<R: Wait, D: Desk, A: OpenPlay<D::In>>(
+fn close_played<R: Wait, D: Desk, A: OpenPlay<PlaySource<D::In>>>(
     rt: &R,
     alloc: Global,
     desk: &mut D,
-    played: Played<D::In, A, D::Out>,
+    played: Played<PlaySource<D::In>, A, D::Out>,
 ) -> Flow<A, D::Out>
-    requires { (core : CorePlan) × (inputs : List (List ℕ)) × (names : List PlayName) × (start : DeskView) × (first : OutputPart D.Out)
-        × WasPlayed (kind_of D.In.seen D.Out.seen A.is_open) core inputs names start first played (D.seen desk.old) }
-    ensures { (core : CorePlan) (inputs : List (List ℕ)) (names : List PlayName) (start : DeskView) (first : OutputPart D.Out)
+    requires { (resync : Bool) × (core : CorePlan) × (inputs : List (List ℕ)) × (names : List PlayName) × (start : DeskView) × (first : OutputPart D.Out)
+        × WasPlayed (kind_of resync ⟦<PlaySource<D::In> as Source>⟧.seen D.Out.seen A.is_open) core inputs names start first played (D.seen desk.old) }
+    ensures { (resync : Bool) (core : CorePlan) (inputs : List (List ℕ)) (names : List PlayName) (start : DeskView) (first : OutputPart D.Out)
         (left_before : PlaysLeft)
-        → WasPlayed (kind_of D.In.seen D.Out.seen A.is_open) core inputs names start first played (D.seen desk.old)
+        → WasPlayed (kind_of resync ⟦<PlaySource<D::In> as Source>⟧.seen D.Out.seen A.is_open) core inputs names start first played (D.seen desk.old)
         → TakesNext inputs left_before played.left played.next
-        → Steps (kind_of D.In.seen D.Out.seen A.is_open) core inputs names start first left_before result (D.seen desk.new) }
+        → Steps (kind_of resync ⟦<PlaySource<D::In> as Source>⟧.seen D.Out.seen A.is_open) core inputs names start first left_before result (D.seen desk.new) }
 {
     let Played {
         left,
@@ -270,23 +275,27 @@ fn close_played<R: Wait, D: Desk, A: OpenPlay<D::In>>(
         output,
         cut,
     } = out;
-    desk.close_in(source);
     match cut {
-        Ok(cut) => say_play(
-            rt,
-            alloc,
-            desk,
-            Present {
-                left,
-                input,
-                next,
-                output,
-                cut,
-                count,
-                text,
-            },
-        ),
+        Ok(cut) => {
+            let ClosedPlay { source, cut } = close_play(source, cut);
+            desk.close_in(source);
+            say_play(
+                rt,
+                alloc,
+                desk,
+                Present {
+                    left,
+                    input,
+                    next,
+                    output,
+                    cut,
+                    count,
+                    text,
+                },
+            )
+        }
         Err(AllocError) => {
+            desk.close_in(into_own(source));
             abandon_next(rt, desk, next);
             Flow::Wants(output)
         }
@@ -299,18 +308,18 @@ fn play_on<R: Threads + Wait + Sync, D: Desk, G: Gate>(
     alloc: Global,
     gate: &G,
     desk: &mut D,
-    state: Switching<AheadPlay<D::In, D::Out, NoPlugin>, D::Out>,
-    mut next: NextPlay<AheadPlay<D::In, D::Out, NoPlugin>>,
-) -> Flow<AheadPlay<D::In, D::Out, NoPlugin>, D::Out>
-    requires { (core : CorePlan) × (inputs : List (List ℕ)) × (names : List PlayName) × (start : DeskView) × (first : OutputPart D.Out)
-        × IsReady (kind_of D.In.seen D.Out.seen ⟦<AheadPlay<D::In, D::Out, NoPlugin> as OpenPlay<D::In>>⟧.is_open) core inputs names start
+    state: Switching<AheadPlay<PlaySource<D::In>, D::Out, NoPlugin>, D::Out>,
+    mut next: NextPlay<AheadPlay<PlaySource<D::In>, D::Out, NoPlugin>>,
+) -> Flow<AheadPlay<PlaySource<D::In>, D::Out, NoPlugin>, D::Out>
+    requires { (resync : Bool) × (core : CorePlan) × (inputs : List (List ℕ)) × (names : List PlayName) × (start : DeskView) × (first : OutputPart D.Out)
+        × IsReady (kind_of resync ⟦<PlaySource<D::In> as Source>⟧.seen D.Out.seen ⟦<AheadPlay<PlaySource<D::In>, D::Out, NoPlugin> as OpenPlay<PlaySource<D::In>>>⟧.is_open) core inputs names start
         first state next (D.seen desk.old) }
-    ensures { (core : CorePlan) (inputs : List (List ℕ)) (names : List PlayName) (start : DeskView) (first : OutputPart D.Out)
+    ensures { (resync : Bool) (core : CorePlan) (inputs : List (List ℕ)) (names : List PlayName) (start : DeskView) (first : OutputPart D.Out)
         (left_before : PlaysLeft)
-        → IsReady (kind_of D.In.seen D.Out.seen ⟦<AheadPlay<D::In, D::Out, NoPlugin> as OpenPlay<D::In>>⟧.is_open) core inputs names start
+        → IsReady (kind_of resync ⟦<PlaySource<D::In> as Source>⟧.seen D.Out.seen ⟦<AheadPlay<PlaySource<D::In>, D::Out, NoPlugin> as OpenPlay<PlaySource<D::In>>>⟧.is_open) core inputs names start
         first state next (D.seen desk.old)
         → TakesNext inputs left_before state.left next
-        → Steps (kind_of D.In.seen D.Out.seen ⟦<AheadPlay<D::In, D::Out, NoPlugin> as OpenPlay<D::In>>⟧.is_open) core inputs names start
+        → Steps (kind_of resync ⟦<PlaySource<D::In> as Source>⟧.seen D.Out.seen ⟦<AheadPlay<PlaySource<D::In>, D::Out, NoPlugin> as OpenPlay<PlaySource<D::In>>>⟧.is_open) core inputs names start
         first left_before result (D.seen desk.new) }
 {
     let Switching {
@@ -344,20 +353,21 @@ pub(crate) fn step<R: Threads + Wait + Sync, D: Desk, G: Gate>(
     gate: &G,
     desk: &mut D,
     core: &CorePlan,
+    resync: bool,
     inputs: &[NameText],
-    state: Switching<AheadPlay<D::In, D::Out, NoPlugin>, D::Out>,
-) -> Flow<AheadPlay<D::In, D::Out, NoPlugin>, D::Out>
+    state: Switching<AheadPlay<PlaySource<D::In>, D::Out, NoPlugin>, D::Out>,
+) -> Flow<AheadPlay<PlaySource<D::In>, D::Out, NoPlugin>, D::Out>
     requires valid { IsValidPlan core.now }
     requires plugins { core.now.plugins ≡ 0 }
     requires some { 0 < length inputs.now }
     requires few { length inputs.now < 2 ^ 62 }
     requires so_far { (names : List PlayName) × (start : DeskView) × (first : OutputPart D.Out)
-        × SoFar (kind_of D.In.seen D.Out.seen ⟦<AheadPlay<D::In, D::Out, NoPlugin> as OpenPlay<D::In>>⟧.is_open) core.now inputs.now names
+        × SoFar (kind_of resync ⟦<PlaySource<D::In> as Source>⟧.seen D.Out.seen ⟦<AheadPlay<PlaySource<D::In>, D::Out, NoPlugin> as OpenPlay<PlaySource<D::In>>>⟧.is_open) core.now inputs.now names
         start first state (D.seen desk.old) }
     ensures { (names : List PlayName) (start : DeskView) (first : OutputPart D.Out)
-        → SoFar (kind_of D.In.seen D.Out.seen ⟦<AheadPlay<D::In, D::Out, NoPlugin> as OpenPlay<D::In>>⟧.is_open) core.now inputs.now names
+        → SoFar (kind_of resync ⟦<PlaySource<D::In> as Source>⟧.seen D.Out.seen ⟦<AheadPlay<PlaySource<D::In>, D::Out, NoPlugin> as OpenPlay<PlaySource<D::In>>>⟧.is_open) core.now inputs.now names
         start first state (D.seen desk.old)
-        → Steps (kind_of D.In.seen D.Out.seen ⟦<AheadPlay<D::In, D::Out, NoPlugin> as OpenPlay<D::In>>⟧.is_open) core.now inputs.now names
+        → Steps (kind_of resync ⟦<PlaySource<D::In> as Source>⟧.seen D.Out.seen ⟦<AheadPlay<PlaySource<D::In>, D::Out, NoPlugin> as OpenPlay<PlaySource<D::In>>>⟧.is_open) core.now inputs.now names
         start first state.left result (D.seen desk.new) }
 {
     let Switching {
@@ -368,7 +378,7 @@ pub(crate) fn step<R: Threads + Wait + Sync, D: Desk, G: Gate>(
         count,
         text,
     } = state;
-    match open_next(alloc, desk, core, inputs, &mut left) {
+    match open_next(alloc, desk, core, resync, inputs, &mut left) {
         Ok(next) => play_on(
             rt,
             alloc,
@@ -385,7 +395,7 @@ pub(crate) fn step<R: Threads + Wait + Sync, D: Desk, G: Gate>(
             next,
         ),
         Err(AllocError) => {
-            desk.close_in(now.leave(rt));
+            leave_play(rt, desk, now);
             Flow::Wants(output)
         }
     }
@@ -405,24 +415,25 @@ pub(crate) fn play_all<R: Threads + Wait + Sync, D: Desk, G: Gate>(
     gate: &G,
     desk: &mut D,
     core: &CorePlan,
+    resync: bool,
     inputs: &[NameText],
-    mut state: Switching<AheadPlay<D::In, D::Out, NoPlugin>, D::Out>,
+    mut state: Switching<AheadPlay<PlaySource<D::In>, D::Out, NoPlugin>, D::Out>,
 ) -> AllPlayed<D::Out>
     requires valid { IsValidPlan core.now }
     requires plugins { core.now.plugins ≡ 0 }
     requires some { 0 < length inputs.now }
     requires few { length inputs.now < 2 ^ 62 }
     requires so_far { (names : List PlayName) × (start : DeskView) × (first : OutputPart D.Out)
-        × SoFar (kind_of D.In.seen D.Out.seen ⟦<AheadPlay<D::In, D::Out, NoPlugin> as OpenPlay<D::In>>⟧.is_open) core.now inputs.now names
+        × SoFar (kind_of resync ⟦<PlaySource<D::In> as Source>⟧.seen D.Out.seen ⟦<AheadPlay<PlaySource<D::In>, D::Out, NoPlugin> as OpenPlay<PlaySource<D::In>>>⟧.is_open) core.now inputs.now names
         start first state (D.seen desk.old) }
     ensures { (names : List PlayName) (start : DeskView) (first : OutputPart D.Out)
-        → SoFar (kind_of D.In.seen D.Out.seen ⟦<AheadPlay<D::In, D::Out, NoPlugin> as OpenPlay<D::In>>⟧.is_open) core.now inputs.now names
+        → SoFar (kind_of resync ⟦<PlaySource<D::In> as Source>⟧.seen D.Out.seen ⟦<AheadPlay<PlaySource<D::In>, D::Out, NoPlugin> as OpenPlay<PlaySource<D::In>>>⟧.is_open) core.now inputs.now names
         start first state (D.seen desk.old)
-        → AreAllPlayed (kind_of D.In.seen D.Out.seen ⟦<AheadPlay<D::In, D::Out, NoPlugin> as OpenPlay<D::In>>⟧.is_open) core.now
+        → AreAllPlayed (kind_of resync ⟦<PlaySource<D::In> as Source>⟧.seen D.Out.seen ⟦<AheadPlay<PlaySource<D::In>, D::Out, NoPlugin> as OpenPlay<PlaySource<D::In>>>⟧.is_open) core.now
         inputs.now names start first result (D.seen desk.new) }
 {
     loop {
-        match step(rt, alloc, gate, desk, core, inputs, state) {
+        match step(rt, alloc, gate, desk, core, resync, inputs, state) {
             Flow::Goes(next) => state = next,
             Flow::Over(over) => return AllPlayed::Over(over),
             Flow::Wants(output) => return AllPlayed::Wants(output),

@@ -5,6 +5,7 @@
 
 mod fault_rows;
 mod files;
+mod found_rows;
 mod meeting;
 mod meeting_rows;
 mod outcome;
@@ -40,10 +41,11 @@ fn write_tables<R: Threads + Wait + Sync + AllocGlobal>(
     rt: &R,
     page: &mut Page,
 ) -> Result<(), AllocError> {
-    let tables: [&[Row]; 3] = [
+    let tables: [&[Row]; 4] = [
         play_rows::rows(),
         fault_rows::rows(),
         fault_rows::after_plays(),
+        found_rows::rows(),
     ];
     let mut tally = Tally::empty();
     for rows in tables {

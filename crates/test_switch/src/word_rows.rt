@@ -6,9 +6,9 @@ use std::sync::Wait;
 use std::thread::Threads;
 use test_tools::{ORDINARY, Page};
 
-/// Each of these lists but the last three has its first fault at another word or for another reason. The last three
+/// Each of these lists but the last four has its first fault at another word or for another reason. The last four
 /// are at the limits of the form.
-static WORDS: [&str; 43] = [
+static WORDS: [&str; 48] = [
     "",
     "-O drop",
     "A",
@@ -28,6 +28,10 @@ static WORDS: [&str; 43] = [
     "--buffer-packets 5 --buffer-packets 5 -I file A",
     "--buffer-packets 5 --cycle 2",
     "--buffer-packets 5 --cycle 2 --cycle 2 -I file A",
+    "--resync",
+    "--resync --resync -I file A",
+    "--resync 1 -I file A",
+    "-I file A --resync",
     "-I",
     "-I null 5",
     "-I drop",
@@ -52,6 +56,7 @@ static WORDS: [&str; 43] = [
     "--cycle 1000 -I file none -O drop",
     "--buffer-packets 5 --cycle 2 -I file A -O drop",
     "--cycle 2 --buffer-packets 5 -I file A -O drop",
+    "--cycle 2 --resync --buffer-packets 5 -I file A -O drop",
 ];
 
 /// Prints the results of all of them, and of one input more than allowed.

@@ -7,13 +7,13 @@ use ts_outside::Purpose;
 
 /// How the words may stand.
 const USAGE: &str =
-    "tsswitch [--cycle N] [--buffer-packets N] -I file NAME [-I file NAME] .. [-O file NAME | -O drop]";
+    "tsswitch [--cycle N] [--buffer-packets N] [--resync] -I file NAME [-I file NAME] .. [-O file NAME | -O drop]";
 
 /// What may come after a word.
 static ROWS: [WordRow; 6] = [
     WordRow {
         after: "",
-        said: "the first word is --cycle, --buffer-packets or -I",
+        said: "the first word is --cycle, --buffer-packets, --resync or -I",
     },
     WordRow {
         after: "--cycle",
