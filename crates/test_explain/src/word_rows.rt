@@ -8,7 +8,7 @@ pub(crate) struct WordsRow {
     pub(crate) rule: WordsRule,
 }
 
-static ROWS: [WordsRow; 78] = [
+static ROWS: [WordsRow; 83] = [
     WordsRow {
         words: "-P filter --pid 9000 -O drop",
         at: 0,
@@ -63,6 +63,21 @@ static ROWS: [WordsRow; 78] = [
         words: "-P zap 1 --bitrate 5",
         at: 0,
         rule: WordsRule::Shape,
+    },
+    WordsRow {
+        words: "-P count --every 0",
+        at: 0,
+        rule: WordsRule::Value,
+    },
+    WordsRow {
+        words: "-P tables --every 5",
+        at: 0,
+        rule: WordsRule::Shape,
+    },
+    WordsRow {
+        words: "-P timestamps --csv --every 5",
+        at: 0,
+        rule: WordsRule::Conflict,
     },
     WordsRow {
         words: "-P filter --pid",
@@ -270,6 +285,11 @@ static ROWS: [WordsRow; 78] = [
         rule: WordsRule::Value,
     },
     WordsRow {
+        words: "-P pmt --service 0 --increment-version",
+        at: 0,
+        rule: WordsRule::Value,
+    },
+    WordsRow {
         words: "-P pmt --pmt-pid 256 --move-pid 256:257",
         at: 0,
         rule: WordsRule::Value,
@@ -293,6 +313,11 @@ static ROWS: [WordsRow; 78] = [
         words: "-P pmt --pmt-pid 256 --add-pid-descriptor 9000/520107",
         at: 0,
         rule: WordsRule::Value,
+    },
+    WordsRow {
+        words: "-P pmt --pmt-pid 256 --service 1",
+        at: 0,
+        rule: WordsRule::Conflict,
     },
     WordsRow {
         words: "-P pmt --pmt-pid 256 --drop",

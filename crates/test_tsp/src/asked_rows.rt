@@ -127,7 +127,7 @@ pub(crate) fn of_faults() -> &'static [Row] {
     &FAULT_ROWS
 }
 
-static FAULT_ROWS: [Row; 30] = [
+static FAULT_ROWS: [Row; 32] = [
     row!(
         "a packet is missing",
         "--fail-on-faults -I file in -P continuity -O drop",
@@ -222,6 +222,16 @@ static FAULT_ROWS: [Row; 30] = [
         "pmt edits its table",
         "--fail-on-faults -I file in -P pmt --pmt-pid 4096 --move-pid 257/300 -O drop",
         Input::Tables(&[Carried::Pmt])
+    ),
+    row!(
+        "pmt finds no table of its service",
+        "--fail-on-faults -I file in -P pmt --service 1 --increment-version -O drop",
+        Input::Tables(&[Carried::SharedPat, Carried::PmtOf2])
+    ),
+    row!(
+        "pmt edits the table of its service",
+        "--fail-on-faults -I file in -P pmt --service 1 --increment-version -O drop",
+        Input::Tables(&[Carried::SharedPat, Carried::PmtOf2, Carried::Pmt])
     ),
     row!(
         "sdt finds no table",

@@ -13,6 +13,17 @@ static NEXT_PAT: [u8; 16] = [
     0x00, 0xB0, 0x0D, 0x00, 0x01, 0xC3, 0x00, 0x00, 0x00, 0x02, 0xF0, 0x01, 0xB2, 0xB7, 0x3C, 0xAE,
 ];
 
+/// A PAT with the service 1 on PID 4096 and again on PID 4097, and the service 2 on PID 4096.
+static SHARED_PAT: [u8; 24] = [
+    0x00, 0xB0, 0x15, 0x00, 0x01, 0xC1, 0x00, 0x00, 0x00, 0x01, 0xF0, 0x00, 0x00, 0x01, 0xF0, 0x01,
+    0x00, 0x02, 0xF0, 0x00, 0x76, 0x26, 0x2C, 0x99,
+];
+
+/// A PAT of version 1 of the same stream, with the service 1 on PID 4097.
+static MOVED_PAT: [u8; 16] = [
+    0x00, 0xB0, 0x0D, 0x00, 0x01, 0xC3, 0x00, 0x00, 0x00, 0x01, 0xF0, 0x01, 0xB0, 0xDE, 0xC9, 0x27,
+];
+
 /// A CAT of version 3 without descriptors.
 static CAT: [u8; 12] = [
     0x01, 0xB0, 0x09, 0xFF, 0xFF, 0xC7, 0x00, 0x00, 0xD2, 0xBE, 0x49, 0x50,
@@ -28,6 +39,12 @@ static PMT: [u8; 21] = [
 static PMT_OF_300: [u8; 21] = [
     0x02, 0xB0, 0x12, 0x00, 0x01, 0xC1, 0x00, 0x00, 0xFF, 0xFF, 0xF0, 0x00, 0x03, 0xE1, 0x2C, 0xF0,
     0x00, 0x31, 0xD2, 0x0E, 0x2E,
+];
+
+/// A PMT of service 2 with its PCR and a component of type 3 on PID 258.
+static PMT_OF_2: [u8; 21] = [
+    0x02, 0xB0, 0x12, 0x00, 0x02, 0xC1, 0x00, 0x00, 0xE1, 0x02, 0xF0, 0x00, 0x03, 0xE1, 0x02, 0xF0,
+    0x00, 0x5E, 0x59, 0x43, 0x7E,
 ];
 
 /// An SDT of version 31 without services.
@@ -50,9 +67,14 @@ static NIT: [u8; 16] = [
 pub(crate) enum Carried {
     Pat,
     NextPat,
+    SharedPat,
+    MovedPat,
     Cat,
     Pmt,
     PmtOf300,
+    /// That of service 1, on PID 4097.
+    PmtOnNext,
+    PmtOf2,
     Sdt,
     OtherSdt,
     Nit,
@@ -68,9 +90,10 @@ impl Carried {
     /// The PID of the packets that carry it.
     pub(crate) fn pid(self) -> u16 {
         match self {
-            Carried::Pat | Carried::NextPat => 0,
+            Carried::Pat | Carried::NextPat | Carried::SharedPat | Carried::MovedPat => 0,
             Carried::Cat => 1,
-            Carried::Pmt | Carried::PmtOf300 => 4096,
+            Carried::Pmt | Carried::PmtOf300 | Carried::PmtOf2 => 4096,
+            Carried::PmtOnNext => 4097,
             Carried::Sdt | Carried::OtherSdt => 17,
             Carried::Nit => 16,
             Carried::Named(table) => table.pid(),
@@ -84,9 +107,12 @@ impl Carried {
         match self {
             Carried::Pat => &PAT,
             Carried::NextPat => &NEXT_PAT,
+            Carried::SharedPat => &SHARED_PAT,
+            Carried::MovedPat => &MOVED_PAT,
             Carried::Cat => &CAT,
-            Carried::Pmt => &PMT,
+            Carried::Pmt | Carried::PmtOnNext => &PMT,
             Carried::PmtOf300 => &PMT_OF_300,
+            Carried::PmtOf2 => &PMT_OF_2,
             Carried::Sdt => &SDT,
             Carried::OtherSdt => &OTHER_SDT,
             Carried::Nit => &NIT,

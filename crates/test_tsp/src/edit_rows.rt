@@ -9,7 +9,7 @@ pub(crate) fn rows() -> &'static [Row] {
     &EDIT_ROWS
 }
 
-static EDIT_ROWS: [Row; 6] = [
+static EDIT_ROWS: [Row; 11] = [
     Row {
         name: "cat puts in a system",
         words: "-I file in -P cat --add-ca 0x1800/256 --increment-version -O file out",
@@ -20,6 +20,43 @@ static EDIT_ROWS: [Row; 6] = [
         name: "pmt moves a PID where there is no PAT",
         words: "-I file in -P pmt --pmt-pid 4096 --move-pid 257/300 -O file out",
         input: Input::Tables(&[Carried::Pmt, Carried::Pmt]),
+        plan: ORDINARY,
+    },
+    Row {
+        name: "pmt edits the PMT of its service on the PID of its first entry",
+        words: "-I file in -P pmt --service 1 --move-pid 257/300 -O file out",
+        input: Input::Tables(&[Carried::SharedPat, Carried::Pmt, Carried::PmtOnNext]),
+        plan: ORDINARY,
+    },
+    Row {
+        name: "pmt carries the PMT of another service on the PID of its own",
+        words: "-I file in -P pmt --service 1 --move-pid 258/300 -O file out",
+        input: Input::Tables(&[Carried::SharedPat, Carried::PmtOf2]),
+        plan: ORDINARY,
+    },
+    Row {
+        name: "pmt follows its service to another PID, and edits no more on the one before",
+        words: "-I file in -P pmt --service 1 --move-pid 257/300 -O file out",
+        input: Input::Tables(&[
+            Carried::Pmt,
+            Carried::Pat,
+            Carried::Pmt,
+            Carried::MovedPat,
+            Carried::Pmt,
+            Carried::PmtOnNext,
+        ]),
+        plan: ORDINARY,
+    },
+    Row {
+        name: "pmt edits nothing where the PAT has no such service",
+        words: "-I file in -P pmt --service 1 --move-pid 257/300 -O file out",
+        input: Input::Tables(&[Carried::NextPat, Carried::Pmt]),
+        plan: ORDINARY,
+    },
+    Row {
+        name: "pmt drops the packets of a component of its service, and not those of its PMT",
+        words: "-I file in -P pmt --service 1 --remove-pid 17,4096 --drop -O file out",
+        input: Input::Tables(&[Carried::Pat, Carried::Sdt, Carried::Pmt]),
         plan: ORDINARY,
     },
     Row {
@@ -53,10 +90,22 @@ pub(crate) fn of_words() -> &'static [Row] {
     &EDIT_WORD_ROWS
 }
 
-static EDIT_WORD_ROWS: [Row; 4] = [
+static EDIT_WORD_ROWS: [Row; 6] = [
     Row {
-        name: "no PID of PMTs",
+        name: "no place of PMTs",
         words: "-I file in -P pmt --move-pid 257/300 -O file out",
+        input: Input::Pids(&[]),
+        plan: ORDINARY,
+    },
+    Row {
+        name: "two places of PMTs",
+        words: "-I file in -P pmt --pmt-pid 4096 --service 1 --move-pid 257/300 -O file out",
+        input: Input::Pids(&[]),
+        plan: ORDINARY,
+    },
+    Row {
+        name: "service 0 of PMTs",
+        words: "-I file in -P pmt --service 0 --move-pid 257/300 -O file out",
         input: Input::Pids(&[]),
         plan: ORDINARY,
     },

@@ -24,6 +24,17 @@ pub(crate) struct Units {
     pub(crate) len: usize,
 }
 
+/// A piece of a file with damage.
+#[derive(Clone, Copy)]
+pub(crate) enum Piece {
+    /// Packets on these PIDs, each before so many further bytes.
+    Packets(&'static [u16], usize),
+    /// A packet on this PID with a wrong sync byte, before so many further bytes.
+    Wrong(u16, usize),
+    /// So many bytes without a sync byte.
+    Junk(usize),
+}
+
 /// A packet with a PCR and without payload.
 #[derive(Clone, Copy)]
 pub(crate) struct Clocked {
@@ -63,6 +74,8 @@ pub(crate) enum Input {
     LongPats(&'static [PatPart]),
     /// Packets with bytes before or after each.
     Units(Units),
+    /// Pieces one after another.
+    Pieces(&'static [Piece]),
 }
 
 /// The bytes of the file.
@@ -100,6 +113,7 @@ fn push_input(bytes: &mut Bytes, input: Input) {
         Input::Clocks(clocks) => push_clocks(bytes, clocks),
         Input::LongPats(parts) => push_parts(bytes, parts),
         Input::Units(units) => push_units(bytes, units),
+        Input::Pieces(pieces) => push_pieces(bytes, pieces),
     }
 }
 
@@ -128,6 +142,31 @@ fn push_units(bytes: &mut Bytes, units: Units) {
         bytes.fill(BESIDE_BYTE, units.behind);
     }
     bytes.truncate(units.len);
+}
+
+/// These pieces, one after another; the counters begin anew in each.
+fn push_pieces(bytes: &mut Bytes, pieces: &[Piece]) {
+    for piece in pieces {
+        push_piece(bytes, *piece);
+    }
+}
+
+fn push_piece(bytes: &mut Bytes, piece: Piece) {
+    match piece {
+        Piece::Packets(pids, behind) => {
+            for i in 0..pids.len() {
+                push_place(bytes, pids, i);
+                bytes.fill(BESIDE_BYTE, behind);
+            }
+        }
+        Piece::Wrong(pid, behind) => {
+            let [high, low] = pid.to_be_bytes();
+            bytes.extend(&[OTHER_BYTE, high, low, 0x10]);
+            bytes.fill(BESIDE_BYTE, 184);
+            bytes.fill(BESIDE_BYTE, behind);
+        }
+        Piece::Junk(count) => bytes.fill(BESIDE_BYTE, count),
+    }
 }
 
 /// A packet on PID 256 with each of these counters.

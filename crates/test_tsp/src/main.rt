@@ -14,6 +14,7 @@ mod clock_rows;
 mod cycle_rows;
 mod edit_rows;
 mod end_rows;
+mod every_rows;
 mod failing_ends;
 mod failing_reads;
 mod failing_writes;
@@ -40,6 +41,7 @@ mod note_rows;
 mod outcome;
 mod plugin_rows;
 mod rate_rows;
+mod resync_rows;
 mod row;
 mod service_rows;
 mod small_pieces;
@@ -101,7 +103,7 @@ fn write_tables<R: Threads + Wait + Sync + AllocGlobal>(
 }
 
 /// All tables, in the order in which they are printed.
-fn tables() -> [&'static [Row]; 43] {
+fn tables() -> [&'static [Row]; 46] {
     [
         end_rows::rows(),
         plugin_rows::rows(),
@@ -133,10 +135,13 @@ fn tables() -> [&'static [Row]; 43] {
         small_pieces::rows(),
         invalid_packets::rows(),
         form_rows::rows(),
+        resync_rows::rows(),
         asked_rows::rows(),
         asked_rows::of_faults(),
         live_rows::rows(),
+        every_rows::rows(),
         word_rows::rows(),
+        every_rows::of_words(),
         edit_rows::of_words(),
         service_rows::of_words(),
         window_rows::of_words(),
