@@ -35,7 +35,7 @@ _tsp() {
     fi
     options=
     [ "$segment" = -I ] || [ "$segment" = -O ] || options=$(_tsp_options "$name")
-    [ "$segment/$name" != -I/file ] || options=--format=
+    [ "$segment/$name" != -I/file ] || options='--format= --resync'
     case $segment/$name/$before in
     -I/file/--format)
         _tsp_answer '@formats@'

@@ -34,7 +34,7 @@ if [[ -z $segment || $segment == -P ]]; then
     esac
 fi
 if [[ $segment/$name == -I/file ]]; then
-    options=('--format=:how the file keeps its packets')
+    options=('--format=:how the file keeps its packets' '--resync:its packets are found again where it is damaged')
     if [[ $words[CURRENT-1] == --format ]]; then
         compadd @formats@
         return
