@@ -26,6 +26,7 @@ pub(crate) fn form_text(takes: Takes) -> &'static str {
             "a number and a code of three characters have / between them, as 257/deu,258/eng\n",
         Takes::Numbered(_, _, Part::Descriptors) =>
             "a number and whole descriptors in hexadecimal digits have / between them, as 257/520107,258/520108\n",
+        Takes::Words(_) => "words are joined by commas, without blanks\n",
         Takes::Choice(_) | Takes::Text => "",
     }
 }
@@ -50,6 +51,7 @@ pub(crate) fn list_text(takes: Takes) -> &'static str {
             "all of its codes are given in one list, as 257/deu,258/eng\n",
         Takes::Numbered(_, _, Part::Descriptors) =>
             "all of its descriptors are given in one list, as 257/520107,258/520108\n",
+        Takes::Words(_) => "all of its words are given in one list, as nit,eit\n",
         _ => "",
     }
 }
@@ -132,7 +134,9 @@ fn put_range(text: &mut String, takes: Takes) -> Result<(), AllocError> {
             let (least, most) = range;
             write!(text, "the range of the number is {least} to {most}\n")
         }
-        Takes::Ranges(_) | Takes::Part(_) | Takes::Choice(_) | Takes::Text => Ok(()),
+        Takes::Ranges(_) | Takes::Part(_) | Takes::Choice(_) | Takes::Words(_) | Takes::Text => Ok(
+            (),
+        ),
     }
 }
 

@@ -24,6 +24,7 @@ pub(crate) fn fits(alloc: Global, takes: Takes, word: &str) -> Result<bool, Allo
             Ok(read_all_numbered(alloc, word, sign.character(), range, part)?.is_some())
         }
         Takes::Choice(names) => Ok(names.contains(&word)),
+        Takes::Words(names) => Ok(word.split(',').all(|part| names.contains(&part))),
         Takes::Text => Ok(true),
     }
 }

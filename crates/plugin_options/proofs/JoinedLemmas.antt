@@ -10,7 +10,7 @@ use Rattle.plugin_options.specs.Joined.{if_all, is_comma, read_joined, read_part
 abbrev pub with_later : {X : Type 0} → List X → Option (List X) → Option (List X)
 with_later items = option_map (λ later. items ++ later)
 
-last_part : (rest : List ℕ) → position_or_len is_comma rest ≡ length rest → slice_split is_comma rest ≡ rest ∷ []
+pub last_part : (rest : List ℕ) → position_or_len is_comma rest ≡ length rest → slice_split is_comma rest ≡ rest ∷ []
 last_part rest e = slice_split_none is_comma rest (λ k d lt. fails_before_first is_comma rest k d (omega (arith, e)))
 
 module _ {X : Type 0} (reader : List ℕ → Option X) where

@@ -5,5 +5,6 @@ pub mod ParsedOptionsLemmas
 pub mod RefusalLemmas
 pub mod SignLemmas
 pub mod SignedLemmas
+pub mod WordListLemmas
 mod Rows
 mod SettingsRows

@@ -1,11 +1,13 @@
 -- Worked rows of signed numbers, pairs, ranges and parts that are joined by commas, computed on the definitions.
-use Rattle.std.proofs.Common.{◌≡◌, pos, negsuc, [], ◌∷◌, None, Some, codes, refl}
+use Rattle.std.proofs.Common.{◌≡◌, ◌||◌, true, false, pos, negsuc, [], ◌∷◌, None, Some, codes, refl}
 use Rattle.ts_bits.specs.DescriptorLoop.{descriptors_from}
 use Rattle.plugin_options.specs.Number.{number_of, number_within}
 use Rattle.plugin_options.specs.Pairs.{pair_of, pairs_of}
 use Rattle.plugin_options.specs.Parts.{all_numbered_of, code_of, if_whole, numbered_of}
 use Rattle.plugin_options.specs.Ranges.{range_of, ranges_within}
 use Rattle.plugin_options.specs.Signed.{signed_of, signed_within}
+use Rattle.plugin_options.specs.WordLists.{are_known, has_part}
+use Rattle.std.specs.Str.{bytes_eq}
 use Rattle.plugin_options.specs.declared.part.Part.TheVariants.{Code}
 
 -- two pairs, of which the second has a hexadecimal number
@@ -82,3 +84,20 @@ twice = refl
 sign-alone : signed_of (codes "-") ≡ None
 unfolding number_of signed_of
 sign-alone = refl
+
+-- words of three, joined by commas; one that is none of them, and none at all
+kept-words : are_known (λ word. bytes_eq (codes "nit") word || bytes_eq (codes "time") word) (codes "time,nit,nit") ≡ true
+kept-words = refl
+
+other-words : are_known (λ word. bytes_eq (codes "nit") word) (codes "nit,bat") ≡ false
+other-words = refl
+
+no-words : are_known (λ word. bytes_eq (codes "nit") word) (codes "nit,") ≡ false
+no-words = refl
+
+-- a word is a whole part
+whole-part : has_part (codes "it") (codes "nit,eit") ≡ false
+whole-part = refl
+
+second-part : has_part (codes "eit") (codes "nit,eit") ≡ true
+second-part = refl

@@ -16,3 +16,4 @@ pub mod LabelSet
 pub mod NumberSet
 pub mod PidTable
 pub mod Selection
+pub mod WordLists

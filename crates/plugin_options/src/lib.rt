@@ -26,6 +26,7 @@ mod sign;
 mod signed;
 mod signs;
 mod takes;
+mod word_list;
 mod words_rule;
 
 pub use commands::{command_with, new_command, with_value};

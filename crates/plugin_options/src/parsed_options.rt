@@ -4,8 +4,10 @@ ghost use Rattle.std.specs.String.{string_bytes};
 ghost use Rattle.clap.specs.Simple.{app_of};
 ghost use Rattle.clap.specs.Faults.{is_simple_and_free};
 ghost use Rattle.plugin_options.specs.NumberSet.{AllBelow};
-ghost use Rattle.plugin_options.specs.Forms.{bytes, has_form, number, numbered, pair, pairs, part, ranges, ranges_from, signed, text as any_text};
-ghost use Rattle.std.specs.List.{All, filter_map, list_all};
+ghost use Rattle.plugin_options.specs.Forms.{bytes, has_form, known as words_known, number, numbered, pair, pairs, part, ranges, ranges_from, signed, text as any_text};
+ghost use Rattle.std.specs.List.{All, filter_map, list_all, list_any};
+ghost use Rattle.std.specs.Option.{option_map_or};
+ghost use Rattle.std.specs.Str.{bytes_eq};
 ghost use Rattle.plugin_options.specs.HexText.{bytes_of};
 ghost use Rattle.plugin_options.specs.Number.{number_within};
 ghost use Rattle.plugin_options.specs.Options.{findings, has_flag, has_value, is_by_words, is_formed, is_taken, read_value, value_of, values_of};
@@ -14,6 +16,7 @@ ghost use Rattle.plugin_options.specs.Parts.{IsNumbered, all_numbered_of, part_o
 ghost use Rattle.plugin_options.specs.Ranges.{ranges_of, ranges_within};
 ghost use Rattle.plugin_options.specs.Refusal.{IsRefusedBy};
 ghost use Rattle.plugin_options.specs.Signed.{signed_within};
+ghost use Rattle.plugin_options.specs.WordLists.{are_known, has_part};
 ghost use Rattle.plugin_options.specs.declared.words_rule.WordsRule.TheVariants.{Shape, Value};
 
 use crate::hex_text::read_bytes;
@@ -25,6 +28,7 @@ use crate::part_text::read_part;
 use crate::ranges::read_ranges;
 use crate::refusal::Refusal;
 use crate::signed::read_signed_within;
+use crate::word_list::{are_known, has_part};
 use crate::words_rule::WordsRule;
 use crate::{NumberSet, NumberedParts, PairList};
 use clap::error::ErrorKind;
@@ -361,6 +365,26 @@ impl<'a> ParsedOptions<'a> {
         match self.values(name) {
             Some(texts) => read_numbers(alloc, texts, least, most),
             None => Ok(Vec::new(alloc)),
+        }
+    }
+
+    /// Whether each of the words of an option, joined by commas, is one of these; so it is where it is not given.
+    pub fn are_words(&self, name: &str, known: &[&str]) -> bool
+        ensures { result ≡ is_formed (words_known (are_known (λ word. list_any (λ one. bytes_eq one.now word) known.now))) name.now self.now }
+    {
+        match self.value(name) {
+            Some(text) => are_known(text, known),
+            None => true,
+        }
+    }
+
+    /// Whether a word is one of those of an option, joined by commas; it is none where the option is not given.
+    pub fn has_word(&self, name: &str, word: &str) -> bool
+        ensures { result ≡ option_map_or (has_part word.now) (value_of name.now self.now) false }
+    {
+        match self.value(name) {
+            Some(text) => has_part(text, word),
+            None => false,
         }
     }
 

@@ -25,6 +25,8 @@ pub enum Takes {
     Numbered(Sign, (u64, u64), Part),
     /// One of these words.
     Choice(&'static [&'static str]),
+    /// Some of these words, joined by commas.
+    Words(&'static [&'static str]),
     /// Any text.
     Text,
 }
