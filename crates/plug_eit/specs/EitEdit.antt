@@ -1,25 +1,16 @@
 -- What `eit` makes of a section.
--- ETSI EN 300 468, 5.2.4: table_id 0x4E is an EIT of the present and the following events of this transport stream, 0x50 to 0x5F
--- of its schedule. The edit is this project's own rule: a section that does not read, one without such an event, and one that
--- would become longer is given as it came.
-use Rattle.std.specs.Prelude.{ℕ, ◌||◌, ◌&&◌, List, [], ◌∷◌, length, nat_eq, nat_le, Bool, is_some, not, Option, Some, None, Result, Ok, Err, if◌then◌else◌}
+-- ETSI EN 300 468, 5.2.4. The edit is this project's own rule: a section that does not read, one without such an event, and one
+-- that would become longer is given as it came.
+use Rattle.std.specs.Prelude.{ℕ, ◌&&◌, List, [], ◌∷◌, length, nat_le, Bool, is_some, not, Option, Some, None, Result, Ok, Err, if◌then◌else◌}
 use Rattle.std.specs.List.{list_any}
-use Rattle.ts_section.specs.SectionFields.{extension_of, is_long, table_id_of}
 use Rattle.ts_table_rows.specs.RunReading.{FirstBroken, read_run}
 use Rattle.ts_table_rows.specs.TableSections.{sections_of}
 use Rattle.ts_table_rows.specs.TableValues.{TableHolding}
 use Rattle.ts_table_rows.specs.declared.fault.TableRefusal.{TableRefusal}
 use Rattle.ts_table_pages.specs.EitPages.{eit_page}
+use Rattle.ts_eit.specs.EitSections.{is_of_service}
 use Rattle.plug_eit.specs.EventChange.{changed_events, is_event}
 use Rattle.plug_eit.specs.declared.eit_conf.EitConf.{EitConf}
-
--- a table_id of the EITs of this transport stream
-abbrev pub is_eit_id : ℕ → Bool
-is_eit_id id = nat_eq id 0x4E || (nat_le 0x50 id && nat_le id 0x5F)
-
--- an EIT section of a service
-abbrev pub is_of_service : ℕ → List ℕ → Bool
-is_of_service service s = is_long s && (is_eit_id (table_id_of s) && nat_eq (extension_of s) service)
 
 -- a table with its events after the edit
 abbrev pub changed_table : EitConf → TableHolding → TableHolding

@@ -12,10 +12,9 @@ ghost use Rattle.plug_eit.specs.EitSettings.{IsValidEit};
 
 use crate::eit_conf::EitConf;
 use crate::events::{changed_events, has_event};
-use crate::numbers::{FIRST_SCHEDULE, LAST_SCHEDULE, PRESENT_ID};
 use section_flow::{SectionChange, SectionEdit};
 use std::alloc::{AllocError, Global};
-use ts_eit::{Eit, EventList};
+use ts_eit::{Eit, EventList, is_of_service};
 use ts_section::{Section, TableRun};
 use ts_table_rows::{TableFault, TableRefusal};
 
@@ -42,23 +41,6 @@ impl SectionEdit for EitEdit {
         let changed = changed_section(alloc, &self.conf, section)?;
         Ok(changed)
     }
-}
-
-// Whether a section is an EIT section of a service.
-fn is_of_service(service: u64, section: &Section) -> bool
-    ensures { result ≡ edit.is_of_service service section.now }
-{
-    match section.head() {
-        Some(head) => is_eit_id(head.table_id) && u64::from(head.extension) == service,
-        None => false,
-    }
-}
-
-// Whether a table_id is one of the EITs of this transport stream.
-fn is_eit_id(id: u8) -> bool
-    ensures { result ≡ edit.is_eit_id id }
-{
-    id == PRESENT_ID || (FIRST_SCHEDULE <= id && id <= LAST_SCHEDULE)
 }
 
 // An EIT section of the service after the edit.
