@@ -1,5 +1,5 @@
 -- Actions, by PIDs and by tables in force.
-use Rattle.std.proofs.Common.{◌≡◌, ℕ, ◌==◌, ◌&&◌, ◌||◌, not, Bool, true, false, List, [], ◌∷◌, ◌++◌, Option, None, Some, refl, sym, ◌∙◌, ap, arith}
+use Rattle.std.proofs.Common.{◌≡◌, ℕ, ◌==◌, ◌&&◌, ◌||◌, not, Bool, true, false, List, [], ◌∷◌, ◌++◌, Option, None, Some, refl, sym, ◌∙◌, ap, arith, true≢false}
 use Rattle.std.specs.Prelude.{if◌then◌else◌, nat_lt}
 use Rattle.std.specs.List.{cons_option, list_any}
 use Rattle.std.specs.Map.{lookup}
@@ -10,16 +10,17 @@ use Rattle.ts_table_rows.specs.TableValues.{TableHolding}
 use Rattle.plug_psi.specs.InForce.{follows, is_named, may_have_tables, names, pat_of, pid_for, pmt_of, services_in}
 use Rattle.plug_psi.specs.ServicePids.{has_pid}
 use Rattle.plug_psi.proofs.ForceLemmas.{pat-other}
-use Rattle.plug_service.specs.Actions.{action_after, action_of, is_edit, kept_action, may_be_read, own_pids, pmt_pids, removed_action}
+use Rattle.plug_service.specs.Actions.{action_after, action_of, is_edit, keeps_eit, kept_action, may_be_read, own_pids, pmt_pids, removed_action}
 use Rattle.plug_service.specs.declared.way.Way.{Way}
 use Rattle.plug_service.specs.declared.way.Way.TheVariants.{Keep, Remove}
 use Rattle.plug_service.specs.declared.action.Action.{Action}
-use Rattle.plug_service.specs.declared.action.Action.TheVariants.{EditPat, EditSdt, EditPmt, Pass, Drop}
+use Rattle.plug_service.specs.declared.action.Action.TheVariants.{EditPat, EditSdt, EditEit, EditPmt, Pass, Drop}
 
 -- the actions of packets that carry PATs, and of those that carry SDTs
 abbrev pub edits_pat : Action → Bool
 edits_pat EditPat = true
 edits_pat EditSdt = false
+edits_pat EditEit = false
 edits_pat EditPmt = false
 edits_pat Pass = false
 edits_pat Drop = false
@@ -27,14 +28,25 @@ edits_pat Drop = false
 abbrev pub edits_sdt : Action → Bool
 edits_sdt EditPat = false
 edits_sdt EditSdt = true
+edits_sdt EditEit = false
 edits_sdt EditPmt = false
 edits_sdt Pass = false
 edits_sdt Drop = false
+
+-- the action of those that carry EITs
+abbrev pub edits_eit : Action → Bool
+edits_eit EditPat = false
+edits_eit EditSdt = false
+edits_eit EditEit = true
+edits_eit EditPmt = false
+edits_eit Pass = false
+edits_eit Drop = false
 
 -- an action of packets on another PID
 abbrev IsOther : Action → Type 0
 IsOther EditPat = ⊥
 IsOther EditSdt = ⊥
+IsOther EditEit = Unit {0}
 IsOther EditPmt = Unit {0}
 IsOther Pass = Unit {0}
 IsOther Drop = Unit {0}
@@ -57,6 +69,51 @@ removed_other false b c pid = chosen _
     chosen true = tt
     chosen false = tt
 
+-- an action of packets that carry no table that is kept
+kept_none : (a b : Bool) (pid : ℕ) → edits_eit (kept_action a b pid) ≡ false
+kept_none true b pid = null (pid == NULL_PID)
+  where
+    null : (d : Bool) → edits_eit (if d then Drop else EditPmt) ≡ false
+    null true = refl
+    null false = refl
+kept_none false true pid = refl
+kept_none false false pid = refl
+
+removed_none : (a b c : Bool) (pid : ℕ) → edits_eit (removed_action a b c pid) ≡ false
+removed_none true true c pid = refl
+removed_none true false c pid = refl
+removed_none false b c pid = chosen _
+  where
+    chosen : (d : Bool) → edits_eit (if d then Drop else Pass) ≡ false
+    chosen true = refl
+    chosen false = refl
+
+-- the tables that are kept, by three tests
+abbrev first_kept : (a b c : Bool) → Action → Action
+first_kept a b c other = if a then Pass else (if b then Pass else (if c then EditEit else other))
+
+first_other : (a b c : Bool) (other : Action) → IsOther other → IsOther (first_kept a b c other)
+first_other true b c other o = tt
+first_other false true c other o = tt
+first_other false false true other o = tt
+first_other false false false other o = o
+
+first_eit : (a b c : Bool) (other : Action) → edits_eit other ≡ false → (c ≡ true → (a ≡ false) × (b ≡ false)) → edits_eit (first_kept a b c other) ≡ c
+first_eit true b true other o apart = absurd (true≢false (apart refl).0)
+first_eit true b false other o apart = refl
+first_eit false true true other o apart = absurd (true≢false (apart refl).1)
+first_eit false true false other o apart = refl
+first_eit false false true other o apart = refl
+first_eit false false false other o apart = o
+
+-- the fixed PIDs in front of them
+front_eit : (x y : Bool) (other : Action) (c : Bool) → edits_eit other ≡ c → (c ≡ true → (x ≡ false) × (y ≡ false)) → edits_eit (if x then EditPat else (if y then EditSdt else other)) ≡ c
+front_eit true y other true o apart = absurd (true≢false (apart refl).0)
+front_eit true y other false o apart = refl
+front_eit false true other true o apart = absurd (true≢false (apart refl).1)
+front_eit false true other false o apart = refl
+front_eit false false other c o apart = o
+
 -- what the first two tests are, where the action is known
 chosen_first : (x y : Bool) (other action : Action) → IsOther other → (x ≡ true → y ≡ false) → action ≡ (if x then EditPat else (if y then EditSdt else other)) → (x ≡ edits_pat action) × (y ≡ edits_sdt action)
 chosen_first true y other action o apart e = (sym (ap edits_pat e), apart refl ∙ sym (ap edits_sdt e))
@@ -66,6 +123,7 @@ chosen_first false false other action o apart e = (sym (ap edits_pat e ∙ none_
     none_pat : (f : Action) → IsOther f → edits_pat f ≡ false
     none_pat EditPat o = absurd o
     none_pat EditSdt o = refl
+    none_pat EditEit o = refl
     none_pat EditPmt o = refl
     none_pat Pass o = refl
     none_pat Drop o = refl
@@ -73,6 +131,7 @@ chosen_first false false other action o apart e = (sym (ap edits_pat e ∙ none_
     none_sdt : (f : Action) → IsOther f → edits_sdt f ≡ false
     none_sdt EditPat o = refl
     none_sdt EditSdt o = absurd o
+    none_sdt EditEit o = refl
     none_sdt EditPmt o = refl
     none_sdt Pass o = refl
     none_sdt Drop o = refl
@@ -85,8 +144,36 @@ pub fixed_pids :
     (way : Way) (services : List ℕ) (packets : List (List ℕ)) (pid : ℕ) (action : Action) → action ≡ action_after way services packets pid →
     ((pid == 0) ≡ edits_pat action) × ((pid == 17) ≡ edits_sdt action)
 unfolding action_after
-fixed_pids Keep services packets pid action e = chosen_first (pid == 0) (pid == 17) _ action (kept_other _ _ pid) (apart pid) e
+fixed_pids (Keep kept) services packets pid action e =
+    chosen_first (pid == 0) (pid == 17) _ action (first_other (kept.nit && (pid == 16)) (kept.time && (pid == 20)) (kept.eit && (pid == 18)) _ (kept_other _ _ pid)) (apart pid) e
 fixed_pids Remove services packets pid action e = chosen_first (pid == 0) (pid == 17) _ action (removed_other _ _ _ pid) (apart pid) e
+
+right_of : (a b : Bool) → (a && b) ≡ true → b ≡ true
+right_of true b e = e
+right_of false b e = cc
+
+none_of : (a b : Bool) → b ≡ false → (a && b) ≡ false
+none_of true b e = e
+none_of false b e = refl
+
+at-eighteen : (pid : ℕ) → (pid == 18) ≡ true → ((pid == 0) ≡ false) × ((pid == 17) ≡ false) × ((pid == 16) ≡ false) × ((pid == 20) ≡ false)
+at-eighteen pid e = (grind (arith, nat_tests, e), grind (arith, nat_tests, e), grind (arith, nat_tests, e), grind (arith, nat_tests, e))
+
+-- and as EITs on PID 18, if EIT sections are kept
+pub eit_pid :
+    (way : Way) (services : List ℕ) (packets : List (List ℕ)) (pid : ℕ) (action : Action) → action ≡ action_after way services packets pid →
+    (keeps_eit way && (pid == 18)) ≡ edits_eit action
+unfolding action_after
+eit_pid (Keep kept) services packets pid action e =
+    let a = kept.nit && (pid == 16) in
+    let b = kept.time && (pid == 20) in
+    let c = kept.eit && (pid == 18) in
+    sym (ap edits_eit e
+    ∙ front_eit (pid == 0) (pid == 17) _ c
+    (first_eit a b c _ (kept_none _ _ pid)
+    (λ is. let at = at-eighteen pid (right_of kept.eit (pid == 18) is) in (none_of kept.nit (pid == 16) at.2, none_of kept.time (pid == 20) at.3)))
+    (λ is. let at = at-eighteen pid (right_of kept.eit (pid == 18) is) in (at.0, at.1)))
+eit_pid Remove services packets pid action e = sym (ap edits_eit e ∙ front_eit (pid == 0) (pid == 17) _ false (removed_none _ _ _ pid) (λ is. absurd (true≢false (sym is))))
 
 -- the action of a PID by the tables in force after packets
 pub action-after : (way : Way) (services : List ℕ) (packets : List (List ℕ)) (pid : ℕ) → action_of way services (pat_of packets) (λ other. pmt_of other packets) pid ≡ action_after way services packets pid
@@ -163,20 +250,28 @@ first-plain true y other e f = cc
 first-plain false true other e f = cc
 first-plain false false other e f = refl
 
+first-kept-plain : (a b c : Bool) (other : Action) → c ≡ false → is_edit other ≡ false → is_edit (first_kept a b c other) ≡ false
+first-kept-plain true b c other e o = refl
+first-kept-plain false true c other e o = refl
+first-kept-plain false false true other e o = cc
+first-kept-plain false false false other e o = o
+
 plain-of : (way : Way) (services : List ℕ) (pat : Option TableHolding) (pmts : ℕ → Option TableHolding) (pid : ℕ) →
-    (pid == 17) ≡ false → (pid == 0) ≡ false → is_named pat pid ≡ false → is_edit (action_of way services pat pmts pid) ≡ false
-plain-of Keep services pat pmts pid e f none =
+    (pid == 17) ≡ false → (pid == 0) ≡ false → (keeps_eit way && (pid == 18)) ≡ false → is_named pat pid ≡ false → is_edit (action_of way services pat pmts pid) ≡ false
+plain-of (Keep kept) services pat pmts pid e f g none =
     first-plain (pid == 0) (pid == 17) _ f e
-    ∙ kept-plain (has_pid (pmt_pids services pat) pid) (has_pid (own_pids services pmts) pid) pid (unfollowed pat services pid none)
-plain-of Remove services pat pmts pid e f none = first-plain (pid == 0) (pid == 17) _ f e ∙ removed-plain _ _ _ pid
+    ∙ first-kept-plain (kept.nit && (pid == 16)) (kept.time && (pid == 20)) (kept.eit && (pid == 18)) _ g
+    (kept-plain (has_pid (pmt_pids services pat) pid) (has_pid (own_pids services pmts) pid) pid (unfollowed pat services pid none))
+plain-of Remove services pat pmts pid e f g none = first-plain (pid == 0) (pid == 17) _ f e ∙ removed-plain _ _ _ pid
 
 -- a packet on a PID whose tables are neither read nor edited is not edited
 pub unread-plain :
     (way : Way) (services : List ℕ) (met : List (List ℕ)) (p : List ℕ) (action : Action) →
-    action ≡ action_after way services (met ++ p ∷ []) (pid_of p) → may_be_read (pid_of p) met ≡ false → is_edit action ≡ false
+    action ≡ action_after way services (met ++ p ∷ []) (pid_of p) → may_be_read way (pid_of p) met ≡ false → is_edit action ≡ false
 unread-plain way services met p action e unread =
-    let first = neither (pid_of p == 17) (may_have_tables (pid_of p) met) unread in
-    let second = neither (pid_of p == 0) (follows (pid_of p) met) first.1 in
+    let first = neither (pid_of p == 17) _ unread in
+    let kept = neither (keeps_eit way && (pid_of p == 18)) (may_have_tables (pid_of p) met) first.1 in
+    let second = neither (pid_of p == 0) (follows (pid_of p) met) kept.1 in
     ap is_edit (e ∙ sym (action-after way services (met ++ p ∷ []) (pid_of p)))
-    ∙ plain-of way services (pat_of (met ++ p ∷ [])) (λ other. pmt_of other (met ++ p ∷ [])) (pid_of p) first.0 second.0
+    ∙ plain-of way services (pat_of (met ++ p ∷ [])) (λ other. pmt_of other (met ++ p ∷ [])) (pid_of p) first.0 second.0 kept.0
     (ap (λ pat. is_named pat (pid_of p)) (pat-other met p second.0) ∙ second.1)

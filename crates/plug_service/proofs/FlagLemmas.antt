@@ -14,7 +14,7 @@ pub told-by :
     (way : Way) (services : List ℕ) (pat : Option TableHolding) (pmts : ℕ → Option TableHolding) (own others : List ℕ) →
     own ≡ own_pids services pmts → others ≡ protected_pids way services pat pmts → (pid : ℕ) →
     (has_pid own pid && not (has_pid others pid)) ≡ is_in_pmts way services pat pmts pid
-told-by Keep services pat pmts own others e f pid =
+told-by (Keep kept) services pat pmts own others e f pid =
     ap (λ l. has_pid own pid && not (has_pid l pid)) f ∙ and_true (has_pid own pid) ∙ ap (λ l. has_pid l pid) e
 told-by Remove services pat pmts own others e f pid = ap₂ (λ l m. has_pid l pid && not (has_pid m pid)) e f
 

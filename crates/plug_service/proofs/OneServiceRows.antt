@@ -9,10 +9,11 @@ use Rattle.ts_psi.specs.PsiPages.{pmt_page}
 use Rattle.plug_psi.specs.Edits.{Change, same, away}
 use Rattle.plug_psi.specs.InForce.{current_in, current_pmt, of_service, pid_for, services_in}
 use Rattle.plug_psi.specs.ServicePids.{has_pid, pids_of}
-use Rattle.plug_service.specs.Actions.{action_of, edited_first, is_in_pmts_alone, kept_action, more_entries, own_pids, pids_besides, removed_action}
+use Rattle.plug_service.specs.Actions.{action_of, edited_first, is_in_pmts_alone, kept_action, kept_first, more_entries, own_pids, pids_besides, removed_action}
 use Rattle.plug_service.specs.Presence.{is_any_there, is_there}
 use Rattle.plug_service.specs.ServiceEdits.{carried_if_one, pmt_change, stays}
 use Rattle.plug_service.specs.Services.{each_once, is_one}
+use Rattle.plug_service.specs.declared.kept.Kept.{Kept}
 use Rattle.plug_service.specs.declared.way.Way.{Way}
 use Rattle.plug_service.specs.declared.way.Way.TheVariants.{Keep, Remove}
 
@@ -50,8 +51,8 @@ pub one-there : (way : Way) (service : ℕ) (pat : Option TableHolding) (pmts : 
 one-there way service pat pmts = or-false (is_there way service pat (pmts service))
 
 -- entries of the PAT and of the SDT stay by its number
-pub one-stays : (service id : ℕ) → stays Keep (service ∷ []) id ≡ (id == service)
-one-stays = one-is
+pub one-stays : (kept : Kept) (service id : ℕ) → stays (Keep kept) (service ∷ []) id ≡ (id == service)
+one-stays kept = one-is
 
 pub one-goes : (service id : ℕ) → stays Remove (service ∷ []) id ≡ not (id == service)
 one-goes service id = ap not (one-is service id)
@@ -79,9 +80,10 @@ one-own service pid pmts = ap (λ l. has_pid l pid) (append-nil (pids_of (pmts s
 
 -- if it is kept
 pub one-kept :
-    (service : ℕ) (pat : Option TableHolding) (pmts : ℕ → Option TableHolding) (pid : ℕ) →
-    action_of Keep (service ∷ []) pat pmts pid ≡ edited_first pid (kept_action (is_at (pid_for pat service) pid) (has_pid (pids_of (pmts service)) pid) pid)
-one-kept service pat pmts pid = ap (edited_first pid) (ap₂ (λ a b. kept_action a b pid) (one-at (pid_for pat service) pid) (one-own service pid pmts))
+    (kept : Kept) (service : ℕ) (pat : Option TableHolding) (pmts : ℕ → Option TableHolding) (pid : ℕ) →
+    action_of (Keep kept) (service ∷ []) pat pmts pid
+    ≡ edited_first pid (kept_first kept pid (kept_action (is_at (pid_for pat service) pid) (has_pid (pids_of (pmts service)) pid) pid))
+one-kept kept service pat pmts pid = ap (λ a. edited_first pid (kept_first kept pid a)) (ap₂ (λ a b. kept_action a b pid) (one-at (pid_for pat service) pid) (one-own service pid pmts))
 
 -- another entry shares its PID where there is more than one
 once-at : (at : ℕ) → count_by (λ p. p == at) (at ∷ []) ≡ 1

@@ -15,9 +15,13 @@ use Rattle.plug_psi.specs.InForce.{current_pat, pat_of, pid_for, pmt_of}
 use Rattle.plug_psi.specs.SameForce.{SameInForce}
 use Rattle.plug_psi.proofs.FoundLemmas.{found-none}
 use Rattle.plug_service.specs.Presence.{finds_service, is_any_there, is_there, is_there_after}
-use Rattle.plug_service.specs.ServiceState.{IsNoted, MeetsHistory, StandsFor}
+use Rattle.plug_service.specs.Actions.{action_of}
+use Rattle.plug_service.specs.ActionsState.{ActionsStand}
+use Rattle.plug_service.specs.ServiceState.{IsNoted, MeetsHistory, Served, StandsFor}
+use Rattle.plug_service.specs.declared.kept.Kept.{Kept}
 use Rattle.plug_service.specs.declared.way.Way.{Way}
 use Rattle.plug_service.specs.declared.way.Way.TheVariants.{Keep, Remove}
+use Rattle.plug_service.specs.declared.pid_actions.PidActions.{PidActions}
 use Rattle.plug_service.specs.declared.service_steps.ServiceSteps.{ServiceSteps}
 
 no-pat : pat_of [] ≡ None
@@ -26,12 +30,12 @@ no-pat = found-none current_pat 0
 
 -- a service that the PAT lacks is not there
 pub not-there : (way : Way) (service : ℕ) (pat pmt : Option TableHolding) → pid_for pat service ≡ None → false ≡ is_there way service pat pmt
-not-there Keep service pat pmt e = sym (ap (λ o. is_some o && is_some pmt) e)
+not-there (Keep kept) service pat pmt e = sym (ap (λ o. is_some o && is_some pmt) e)
 not-there Remove service pat pmt e = sym (ap is_some e)
 
 -- one that it has is there to be removed, and where there is a PMT, to be kept
-pub there-kept : (service : ℕ) (pat pmt : Option TableHolding) → is_some (pid_for pat service) ≡ true → is_some pmt ≡ is_there Keep service pat pmt
-there-kept service pat pmt e = sym (ap (λ b. b && is_some pmt) e)
+pub there-kept : (kept : Kept) (service : ℕ) (pat pmt : Option TableHolding) → is_some (pid_for pat service) ≡ true → is_some pmt ≡ is_there (Keep kept) service pat pmt
+there-kept kept service pat pmt e = sym (ap (λ b. b && is_some pmt) e)
 
 pub there-removed : (service : ℕ) (pat pmt : Option TableHolding) → is_some (pid_for pat service) ≡ true → true ≡ is_there Remove service pat pmt
 there-removed service pat pmt e = sym e
@@ -54,6 +58,22 @@ none-there way services = none-of way services (pat_of []) (λ service. pmt_of s
 same-any : (way : Way) (services : List ℕ) (pat pat' : Option TableHolding) (pmts pmts' : ℕ → Option TableHolding) → pat ≡ pat' → ((service : ℕ) → pmts service ≡ pmts' service) → is_any_there way services pat pmts ≡ is_any_there way services pat' pmts'
 same-any way [] pat pat' pmts pmts' e same = refl
 same-any way (service ∷ services) pat pat' pmts pmts' e same = ap₂ (λ a b. a || b) (ap₂ (is_there way service) e (same service)) (same-any way services pat pat' pmts pmts' e same)
+
+-- with the same tables in force the actions stand as before
+pub same-actions : (actions : PidActions) (met : List (List ℕ)) (p : List ℕ) → SameInForce met p
+    → ActionsStand actions (pat_of met) (λ other. pmt_of other met)
+    → ActionsStand actions (pat_of (met ++ p ∷ [])) (λ other. pmt_of other (met ++ p ∷ []))
+same-actions actions met p same stands pid lt =
+    stands pid lt
+    ∙ sym (ap (λ pat. action_of actions.way actions.services pat (λ other. pmt_of other (met ++ p ∷ [])) pid) same.pat
+    ∙ ap (λ pmts. action_of actions.way actions.services (pat_of met) pmts pid) (λ i other. same.pmts other i))
+
+-- what the steps stand for says nothing of the latch, and goes by their own services
+pub served-latched : (old new : ServiceSteps) (failed : Bool) (met : List (List ℕ)) → new.way ≡ old.way → new.services ≡ old.services
+    → Served old.way old.services new met → Served new.way new.services (record new { failed = failed }) met
+served-latched old new failed met w s h =
+    let own = subst (λ services. Served new.way services new met) (sym s) (subst (λ way. Served way old.services new met) (sym w) h) in
+    record { followed = own.followed; edited = own.edited; noted = own.noted }
 
 -- where the same tables are in force, nothing changes
 pub same-there : (way : Way) (services : List ℕ) (met : List (List ℕ)) (p : List ℕ) → SameInForce met p → is_there_after way services (met ++ p ∷ []) ≡ is_there_after way services met

@@ -1,6 +1,7 @@
 -- What becomes of the packets on a PID if services are kept or removed.
 -- This project's own rule, over the PAT of ISO/IEC 13818-1, 2.4.4.3 and the SDT on PID 17 of ETSI EN 300 468, 5.1.3. First
--- come PID 0 and PID 17, whose tables are edited, then the PIDs of the services' PMTs, then the PIDs that these PMTs have.
+-- come PID 0 and PID 17, whose tables are edited, then the PIDs of other tables that are kept (ETSI EN 300 468, 5.1.3: the NIT on
+-- PID 16, EITs on PID 18, TDT and TOT on PID 20), then the PIDs of the services' PMTs, then the PIDs that these PMTs have.
 use Rattle.std.specs.Prelude.{ℕ, ◌<◌, ◌==◌, ◌&&◌, ◌||◌, Bool, true, false, not, nat_lt, List, [], count_by, filter, filter_map, Option, if◌then◌else◌}
 use Rattle.std.specs.List.{flat_map}
 use Rattle.ts_packet.specs.declared.numbers.TheConstants.{NULL_PID}
@@ -8,14 +9,21 @@ use Rattle.ts_table_rows.specs.TableValues.{TableHolding}
 use Rattle.plug_psi.specs.InForce.{may_have_tables, pat_of, pid_for, pmt_of, services_in}
 use Rattle.plug_psi.specs.ServicePids.{has_pid, pids_of}
 use Rattle.plug_service.specs.Services.{is_one}
+use Rattle.plug_service.specs.declared.kept.Kept.{Kept}
 use Rattle.plug_service.specs.declared.way.Way.{Way}
 use Rattle.plug_service.specs.declared.way.Way.TheVariants.{Keep, Remove}
 use Rattle.plug_service.specs.declared.action.Action.{Action}
-use Rattle.plug_service.specs.declared.action.Action.TheVariants.{EditPat, EditSdt, EditPmt, Pass, Drop}
+use Rattle.plug_service.specs.declared.action.Action.TheVariants.{EditPat, EditSdt, EditEit, EditPmt, Pass, Drop}
 
 -- the packets on PID 0 and PID 17 are edited, whatever becomes of those on other PIDs
 abbrev pub edited_first : ℕ → Action → Action
 edited_first pid other = if pid == 0 then EditPat else (if pid == 17 then EditSdt else other)
+
+-- the PIDs of other tables that are kept, whatever becomes of packets on other PIDs: NIT, TDT and TOT pass, and EITs are edited
+abbrev pub kept_first : Kept → ℕ → Action → Action
+kept_first kept pid other =
+    if kept.nit && (pid == 16) then Pass
+    else (if kept.time && (pid == 20) then Pass else (if kept.eit && (pid == 18) then EditEit else other))
 
 -- If services are kept, packets on the PIDs of their PMTs are edited, but null packets are dropped. Packets on the PIDs that
 -- a PMT of theirs has pass, and all others are dropped.
@@ -67,12 +75,12 @@ is_in_pmts_alone services pat pmts pid =
 -- what becomes of packets on a PID by three tests of it: whether the services have PMTs there, whether another entry of the PAT
 -- has it too, and whether their PMTs have it; if the services are removed, and no other's
 abbrev pub action_by : Way → Bool → Bool → Bool → ℕ → Action
-action_by Keep is_of_pmt is_shared is_in_pmt pid = edited_first pid (kept_action is_of_pmt is_in_pmt pid)
+action_by (Keep kept) is_of_pmt is_shared is_in_pmt pid = edited_first pid (kept_first kept pid (kept_action is_of_pmt is_in_pmt pid))
 action_by Remove is_of_pmt is_shared is_in_pmt_alone pid = edited_first pid (removed_action is_of_pmt is_shared is_in_pmt_alone pid)
 
 -- what the last of these tests is
 abbrev pub is_in_pmts : Way → List ℕ → Option TableHolding → (ℕ → Option TableHolding) → ℕ → Bool
-is_in_pmts Keep services pat pmts pid = has_pid (own_pids services pmts) pid
+is_in_pmts (Keep kept) services pat pmts pid = has_pid (own_pids services pmts) pid
 is_in_pmts Remove services pat pmts pid = is_in_pmts_alone services pat pmts pid
 
 -- what becomes of packets on a PID if this PAT and these PMTs are in force
@@ -89,6 +97,7 @@ abbrev pub edits_pmt : Action → Bool
 edits_pmt EditPmt = true
 edits_pmt EditPat = false
 edits_pmt EditSdt = false
+edits_pmt EditEit = false
 edits_pmt Pass = false
 edits_pmt Drop = false
 
@@ -96,19 +105,26 @@ edits_pmt Drop = false
 abbrev pub is_edit : Action → Bool
 is_edit EditPat = true
 is_edit EditSdt = true
+is_edit EditEit = true
 is_edit EditPmt = true
 is_edit Pass = false
 is_edit Drop = false
 
--- whether the tables on a PID are read or edited, after some packets of any PID: those that may come into force, and the
--- SDT
-abbrev pub may_be_read : ℕ → List (List ℕ) → Bool
-may_be_read pid packets = (pid == 17) || may_have_tables pid packets
+-- whether EIT sections are edited
+abbrev pub keeps_eit : Way → Bool
+keeps_eit (Keep kept) = kept.eit
+keeps_eit Remove = false
+
+-- whether the tables on a PID are read or edited, after some packets of any PID: those that may come into force, the SDT, and
+-- the EIT sections that are kept
+abbrev pub may_be_read : Way → ℕ → List (List ℕ) → Bool
+may_be_read way pid packets = (pid == 17) || ((keeps_eit way && (pid == 18)) || may_have_tables pid packets)
 
 -- a PID whose packets are edited as those of PMTs is not that of null packets
 abbrev pub IsEditable : Action → ℕ → Type 0
 IsEditable EditPmt pid = pid < NULL_PID
 IsEditable EditPat pid = Unit {0}
 IsEditable EditSdt pid = Unit {0}
+IsEditable EditEit pid = Unit {0}
 IsEditable Pass pid = Unit {0}
 IsEditable Drop pid = Unit {0}

@@ -12,4 +12,5 @@ pub mod ServiceState
 pub mod ServiceSettings
 pub mod ServiceWords
 pub mod SvremoveEntry
+pub mod ZapWords
 pub mod ZapEntry

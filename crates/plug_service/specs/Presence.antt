@@ -12,7 +12,7 @@ use Rattle.plug_service.specs.declared.way.Way.TheVariants.{Keep, Remove}
 -- a service is there if this PAT, and as its PMT this one, if any, are in force: the PAT has an entry of it, and if it is
 -- kept, there is such a PMT
 abbrev pub is_there : Way → ℕ → Option TableHolding → Option TableHolding → Bool
-is_there Keep service pat pmt = is_some (pid_for pat service) && is_some pmt
+is_there (Keep kept) service pat pmt = is_some (pid_for pat service) && is_some pmt
 is_there Remove service pat pmt = is_some (pid_for pat service)
 
 -- one of the services is there if this PAT and these PMTs are in force

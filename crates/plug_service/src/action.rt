@@ -7,7 +7,9 @@ pub(crate) enum Action {
     EditPat,
     /// They carry the edited SDTs.
     EditSdt,
-    /// They carry the PMT of the service alone.
+    /// They carry the EIT sections of the services alone.
+    EditEit,
+    /// They carry the PMTs of the services alone.
     EditPmt,
     /// They pass.
     Pass,

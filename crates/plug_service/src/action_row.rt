@@ -13,7 +13,8 @@ ghost use Rattle.plug_service.specs.ActionsState.{AreActions, protected_pids};
 ghost use Rattle.plug_service.specs.declared.action.Action.TheVariants.{EditPmt, Drop as Dropped};
 
 use crate::action::Action;
-use crate::limits::{LAST_FIXED_PID, PAT_PID, SDT_PID};
+use crate::kept::Kept;
+use crate::limits::{EIT_PID, LAST_FIXED_PID, NIT_PID, PAT_PID, SDT_PID, TIME_PID};
 use crate::service_list::ServiceList;
 use crate::services::{pmt_pids, shared_pids};
 use crate::way::Way;
@@ -72,7 +73,7 @@ fn action_by(
     let of_pmt = of_pmts.get_or(pid, false);
     let flag = flags.get_or(pid, false);
     match way {
-        Way::Keep => edited_first(pid, kept_action(of_pmt, flag, pid)),
+        Way::Keep(kept) => edited_first(pid, kept_first(kept, pid, kept_action(of_pmt, flag, pid))),
         Way::Remove => {
             let is_shared = shared.get_or(pid, false);
             edited_first(pid, removed_action(of_pmt, is_shared, flag, pid))
@@ -89,6 +90,24 @@ fn edited_first(pid: u16, other: Action) -> Action
         Action::EditPat
     } else if pid == SDT_PID {
         Action::EditSdt
+    } else {
+        other
+    }
+}
+
+/// The action of packets on a PID of other tables that are kept; on any other PID it is `other`.
+#[inline]
+fn kept_first(kept: Kept, pid: u16, other: Action) -> Action
+    requires editable { IsEditable other pid }
+    ensures tells { result ≡ Actions.kept_first kept pid other }
+    ensures editable { IsEditable result pid }
+{
+    if kept.nit && pid == NIT_PID {
+        Action::Pass
+    } else if kept.time && pid == TIME_PID {
+        Action::Pass
+    } else if kept.eit && pid == EIT_PID {
+        Action::EditEit
     } else {
         other
     }
@@ -172,7 +191,7 @@ fn pids_to_spare(
         → pids.items ≡ protected_pids way services.now (pat_of fed) (λ other. pmt_of other fed)) }
 {
     match way {
-        Way::Keep => Ok(Vec::new(alloc)),
+        Way::Keep(_) => Ok(Vec::new(alloc)),
         Way::Remove => other_pids(alloc, force, services),
     }
 }

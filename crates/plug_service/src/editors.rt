@@ -9,7 +9,8 @@ ghost use Rattle.plug_service.specs.ServiceRule.{made_by};
 ghost use Rattle.plug_service.specs.EditorsState.{left_by};
 
 use crate::action::Action;
-use crate::limits::{PAT_PID, SDT_PID};
+use crate::eit_alone::EitAlone;
+use crate::limits::{EIT_PID, PAT_PID, SDT_PID};
 use crate::pat_part::PatPart;
 use crate::pmt_alone::PmtAlone;
 use crate::sdt_part::SdtPart;
@@ -19,18 +20,22 @@ use plug_psi::{
     ByPid, Changes, CycleEditor, Follows, FollowsTables, InForce, Reading, SeesChanges,
     unfollowed_packets_change_nothing,
 };
+use section_flow::Flow;
 use std::alloc::{AllocError, Global};
 use ts_packet::Packet;
 
 /// What reads and edits the tables of a PID that a service's PMT had.
 type PmtEditor = Reading<CycleEditor<PmtAlone>>;
 
-/// The editors of PID 0, whose tables the PATs in force have read, of PID 17 and of the PIDs that the services'
-/// PMTs had.
+/// The editors of PID 0, whose tables the PATs in force have read, of PID 17, of PID 18 and of the PIDs that the
+/// services' PMTs had.
 #[derive(Drop)]
 pub(crate) struct Editors {
     pub(crate) pat: CycleEditor<PatPart>,
     pub(crate) sdt: Reading<CycleEditor<SdtPart>>,
+    /// What edits the sections on PID 18, and its edit.
+    pub(crate) eit: Flow,
+    pub(crate) eits: EitAlone,
     pub(crate) pmts: ByPid<PmtEditor>,
     /// The edit of each of those PIDs.
     pub(crate) alone: PmtAlone,
@@ -58,12 +63,18 @@ impl Editors {
             way,
             services: services.copy(alloc)?,
         };
+        let eits = EitAlone {
+            services: services.copy(alloc)?,
+        };
+        let eit = Flow::new(alloc, EIT_PID)?;
         let pat = CycleEditor::fresh(alloc, &pats, PAT_PID)?;
         // The largest value comes last: nothing can fail while it is held.
         let sdt = Reading::fresh(alloc, &sdts, SDT_PID)?;
         Ok(Editors {
             pat,
             sdt,
+            eit,
+            eits,
             pmts: ByPid::new(alloc),
             alone,
         })
@@ -111,6 +122,10 @@ impl Editors {
             Action::EditSdt => {
                 let sdt = self.sdt.take(alloc, at, (), packet)?;
                 *packet = sdt;
+                Ok(true)
+            }
+            Action::EditEit => {
+                self.eit.step(&self.eits, packet)?;
                 Ok(true)
             }
             Action::EditPmt => {

@@ -1,11 +1,44 @@
 //! The plugins `zap` and `svremove`, with their options. Packets of a transport stream come in; those of some services
-//! alone, or of all the others, go out, with a PAT, an SDT and PMTs that match them. The layer above reads the settings
-//! from the words, makes each plugin from its settings, and uses it by the clauses of `Plugin`.
+//! alone, or of all the others, go out, with a PAT, an SDT and PMTs that match them, and with EIT sections of theirs if
+//! wanted. The layer above reads the settings from the words, makes each plugin from its settings, and uses it by the
+//! clauses of `Plugin`.
 #![tactic(auto)]
+
+// The rows of options that both plugins have.
+macro_rules! services_row {
+    () => {
+        OptionRow {
+            word: OptionWord::Operands("operand", Takes::Number(1, LAST_SERVICE)),
+            text: OptionText {
+                value: "N",
+                meaning: "1 to 65535: a service's number in the PAT, which info reports beside its name; up to 62 of them",
+                need: Need::Required,
+                beside: Beside::Any,
+            },
+        }
+    };
+}
+
+macro_rules! stuffing_row {
+    () => {
+        OptionRow {
+            word: OptionWord::Flag("stuffing"),
+            text: OptionText {
+                value: "",
+                meaning: "put a null packet instead of each packet that is dropped",
+                need: Need::Free,
+                beside: Beside::Any,
+            },
+        }
+    };
+}
 
 mod action;
 mod action_row;
 mod editors;
+mod eit_alone;
+mod kept;
+mod kept_words;
 mod limits;
 mod pat_part;
 mod pid_actions;
@@ -25,6 +58,7 @@ mod zap;
 mod zap_conf;
 mod zap_words;
 
+pub use kept::Kept;
 pub use service_conf::ServiceConf;
 pub use service_list::ServiceList;
 pub use service_steps::ServiceSteps;

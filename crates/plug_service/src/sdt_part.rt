@@ -5,6 +5,7 @@ ghost use Rattle.ts_si.specs.SiTables.{sdt_held, service_item};
 ghost use Rattle.plug_service.specs.ServiceEdits;
 ghost use Rattle.plug_service.specs.ServiceEdits.{edited_sdt, service_stays, with_items};
 
+use crate::kept::Kept;
 use crate::service_list::ServiceList;
 use crate::services::stays;
 use crate::way::Way;
@@ -14,7 +15,8 @@ use ts_section::TableRun;
 use ts_si::{Sdt, SdtService, SdtServiceList};
 
 /// Removes the services that do not stay from each current SDT of the actual transport stream that reads. If services are
-/// kept, only tables that are current and have the table_id of such an SDT are carried.
+/// kept, tables that are current and have the table_id of such an SDT are carried, and where BATs are kept too, tables with
+/// the table_id of one as they are, and no others.
 #[derive(Drop)]
 pub(crate) struct SdtPart {
     pub(crate) way: Way,
@@ -27,10 +29,10 @@ impl TableEdit for SdtPart {
     ghost change = { λ s run. sdt_change s.way s.services run };
 
     fn edit(&self, alloc: Global, run: &TableRun) -> Result<Edited, AllocError> {
-        if self.way == Way::Keep && !is_current_sdt(run) {
-            return Ok(Edited::away());
+        match self.way {
+            Way::Keep(kept) if !is_current_sdt(run) => Ok(other_table(kept, run)),
+            _ => edit_sdt(alloc, self.way, &self.services, run),
         }
-        edit_sdt(alloc, self.way, &self.services, run)
     }
 }
 
@@ -67,6 +69,30 @@ fn edit_sdt(
     }
     let edited = part_of_sdt(way, services, sdt);
     sections_or_same(edited.sections(alloc))
+}
+
+/// What is made of another table if services are kept.
+fn other_table(kept: Kept, run: &TableRun) -> Edited
+    ensures { result ≡ ServiceEdits.other_change kept run.now }
+{
+    if kept.bat && is_bat(run) {
+        Edited::same()
+    } else {
+        Edited::away()
+    }
+}
+
+/// Whether a table has the table_id of a BAT.
+fn is_bat(run: &TableRun) -> bool
+    ensures { result ≡ ServiceEdits.is_bat run.now }
+{
+    let Some(first) = run.sections().first() else {
+        return false;
+    };
+    let Some(head) = first.head() else {
+        return false;
+    };
+    head.table_id == 0x4A
 }
 
 /// Whether a table is a current one with the table_id of the SDT of the actual transport stream.

@@ -64,7 +64,7 @@ impl ServiceFollower {
         ensures quiet { (way : Way) (services : List ℕ) (met : List (List ℕ)) → FollowsServices way services self.old met
             → may_have_tables (pid_of packet.now) met ≡ false → IsOk result }
         ensures unread { IfOk result (λ told. (way : Way) (services : List ℕ) (met : List (List ℕ)) → FollowsServices way services self.old met
-            → may_be_read (pid_of packet.now) met ≡ false → is_edit told.0 ≡ false) }
+            → may_be_read way (pid_of packet.now) met ≡ false → is_edit told.0 ≡ false) }
     {
         let came = self.force.update(at, packet)?;
         renew_where(alloc, &self.force, &mut self.actions, came)?;
@@ -101,7 +101,7 @@ impl ServiceFollower {
             return false;
         };
         match self.actions.way {
-            Way::Keep => self.force.pmt(service).is_some(),
+            Way::Keep(_) => self.force.pmt(service).is_some(),
             Way::Remove => true,
         }
     }

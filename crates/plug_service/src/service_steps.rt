@@ -89,8 +89,8 @@ impl ServiceSteps {
             return Some(Unedited::NoService(service));
         }
         match self.way {
-            Way::Keep if force.pmt(service).is_none() => Some(Unedited::NoPmt(service)),
-            Way::Keep | Way::Remove => None,
+            Way::Keep(_) if force.pmt(service).is_none() => Some(Unedited::NoPmt(service)),
+            Way::Keep(_) | Way::Remove => None,
         }
     }
 
@@ -116,7 +116,7 @@ impl ServiceSteps {
         ensures services { self.new.services ≡ self.old.services }
         ensures stuffing { self.new.stuffing ≡ self.old.stuffing }
         ensures quiet { (met : List (List ℕ)) → self.old.failed ≡ false → StandsFor self.old met
-            → may_be_read (pid_of packet.old) met ≡ false → IsOk result }
+            → may_be_read self.old.way (pid_of packet.old) met ≡ false → IsOk result }
     {
         self.failed.check()?;
         let answer = self.advance(at, packet);
@@ -140,7 +140,7 @@ impl ServiceSteps {
         ensures stuffing { self.new.stuffing ≡ self.old.stuffing }
         ensures failed { self.new.failed ≡ self.old.failed }
         ensures quiet { (way : Way) (services : List ℕ) (met : List (List ℕ)) → Served way services self.old met
-            → may_be_read (pid_of packet.old) met ≡ false → IsOk result }
+            → may_be_read way (pid_of packet.old) met ≡ false → IsOk result }
     {
         let (action, came) = self.follower.meet(self.alloc, at, packet)?;
         let force = &mut self.follower.force;
@@ -193,7 +193,7 @@ impl Steps for ServiceSteps {
             (Live packet.old _labels.old) result }
         ensures same_rule { rule_of self.new ≡ rule_of self.old }
         ensures quiet { (history : List Cell) → self.old.failed ≡ false → MeetsHistory self.old history
-            → may_be_read (pid_of packet.old) (live_packets history) ≡ false → result ≢ Outcome.NoMemory }
+            → may_be_read self.old.way (pid_of packet.old) (live_packets history) ≡ false → result ≢ Outcome.NoMemory }
     {
         match self.take(at, packet) {
             Ok(true) => Outcome::Pass,

@@ -84,7 +84,7 @@ pub(crate) fn stays(way: Way, services: &ServiceList, id: u16) -> bool
     ensures { result ≡ ServiceEdits.stays way services.now id }
 {
     match way {
-        Way::Keep => services.has(id),
+        Way::Keep(_) => services.has(id),
         Way::Remove => !services.has(id),
     }
 }

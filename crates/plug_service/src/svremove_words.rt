@@ -10,26 +10,7 @@ use plugin_options::{
 use std::alloc::Global;
 
 // The options of `svremove`.
-static SVREMOVE: [OptionRow; 2] = [
-    OptionRow {
-        word: OptionWord::Operands("operand", Takes::Number(1, LAST_SERVICE)),
-        text: OptionText {
-            value: "N",
-            meaning: "1 to 65535: a service's number in the PAT, which info reports beside its name; up to 62 of them",
-            need: Need::Required,
-            beside: Beside::Any,
-        },
-    },
-    OptionRow {
-        word: OptionWord::Flag("stuffing"),
-        text: OptionText {
-            value: "",
-            meaning: "put a null packet instead of each packet that is dropped",
-            need: Need::Free,
-            beside: Beside::Any,
-        },
-    },
-];
+static SVREMOVE: [OptionRow; 2] = [services_row!(), stuffing_row!()];
 
 impl PluginSettings for SvremoveConf {
     ghost use Rattle.std.specs.Prelude.{refl};

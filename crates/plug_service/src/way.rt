@@ -1,10 +1,12 @@
-//! What is done with a service.
+//! What is done with services.
 
-/// What is done with a service.
+use crate::kept::Kept;
+
+/// What is done with services.
 #[derive(Clone, Copy, PartialEq, Eq)]
 pub(crate) enum Way {
-    /// It is kept, and all others are removed.
-    Keep,
-    /// It is removed, and all others are kept.
+    /// They are kept, with these other tables, and all else is removed.
+    Keep(Kept),
+    /// They are removed, and all others are kept.
     Remove,
 }

@@ -1,34 +1,33 @@
 //! The options of `zap`, and its settings from their values.
 
+ghost use Rattle.std.specs.Prelude.{IfOk};
+ghost use Rattle.plugin_options.specs.Refusal.{ReadsParsed};
+ghost use Rattle.plug_service.specs.ServiceSettings.{IsValidService};
+ghost use Rattle.plug_service.specs.ZapWords.{zap_options};
+
+use crate::kept_words::read_kept;
 use crate::limits::LAST_SERVICE;
 use crate::service_words::service_settings;
 use crate::zap_conf::ZapConf;
 use plugin_entry::{PluginHelp, PluginSettings};
 use plugin_options::{
-    Beside, Need, OptionRow, OptionText, OptionWord, ParsedOptions, Refusal, Takes,
+    Beside, Need, OptionRow, OptionText, OptionWord, ParsedOptions, Refusal, Takes, WordsRule,
 };
 use std::alloc::Global;
 
 // The options of `zap`.
-static ZAP: [OptionRow; 2] = [
+static ZAP: [OptionRow; 3] = [
+    services_row!(),
     OptionRow {
-        word: OptionWord::Operands("operand", Takes::Number(1, LAST_SERVICE)),
+        word: OptionWord::Value("keep", Takes::Words(&["nit", "bat", "eit", "time"])),
         text: OptionText {
-            value: "N",
-            meaning: "1 to 65535: a service's number in the PAT, which info reports beside its name; up to 62 of them",
-            need: Need::Required,
-            beside: Beside::Any,
-        },
-    },
-    OptionRow {
-        word: OptionWord::Flag("stuffing"),
-        text: OptionText {
-            value: "",
-            meaning: "put a null packet instead of each packet that is dropped",
+            value: "WORD,..",
+            meaning: "nit, bat, eit, time, joined by commas: keep these too. nit: PID 16 passes; bat: the BATs on PID 17 stay; eit: PID 18 has the services' EIT sections of this stream and no others, each as soon as it is complete, and null packets between; time: PID 20 passes, with TDT and TOT",
             need: Need::Free,
             beside: Beside::Any,
         },
     },
+    stuffing_row!(),
 ];
 
 impl PluginSettings for ZapConf {
@@ -47,15 +46,13 @@ impl PluginSettings for ZapConf {
 
     fn help() -> PluginHelp {
         PluginHelp {
-            usage: "-P zap [--stuffing] N ..",
-            rule: "The PAT and the SDT have the services alone, their PMTs stay, and so do the PIDs of their components, of their PCRs and of their ECMs; all else is dropped, NIT, EIT and TDT too, also before the first PAT and PMT are complete. It is driven by the tables in force, so it follows a service whose PIDs change under a new version. Where the PAT has none of the numbers, an empty PAT and SDT are left. Up to 62 services may be given, and one that is given twice counts once.",
+            usage: "-P zap [--keep WORD,..] [--stuffing] N ..",
+            rule: "The PAT and the SDT have the services alone, their PMTs stay, and so do the PIDs of their components, of their PCRs and of their ECMs; all else is dropped, NIT, EIT and TDT too where they are not kept, also before the first PAT and PMT are complete. It is driven by the tables in force, so it follows a service whose PIDs change under a new version. Where the PAT has none of the numbers, an empty PAT and SDT are left. Up to 62 services may be given, and one that is given twice counts once.",
         }
     }
 
     fn read(alloc: Global, found: &ParsedOptions) -> Result<ZapConf, Refusal> {
-        Ok(ZapConf {
-            service: service_settings(alloc, found)?,
-        })
+        zap_settings(alloc, found)
     }
 
     fn table_file(&self) -> Option<&str> {
@@ -67,4 +64,17 @@ impl PluginSettings for ZapConf {
     }
 
     ghost simple = { refl };
+}
+
+/// Reads the settings from what the command found in the words.
+fn zap_settings(alloc: Global, found: &ParsedOptions) -> Result<ZapConf, Refusal>
+    ensures reads { ReadsParsed zap_options found.now result }
+    ensures valid { IfOk result (λ conf. IsValidService conf.service) }
+{
+    if !found.has_values("operand") {
+        return Err(Refusal::Broken(WordsRule::Missing));
+    }
+    let kept = read_kept(found)?;
+    let service = service_settings(alloc, found)?;
+    Ok(ZapConf { service, kept })
 }

@@ -17,7 +17,7 @@ returns-in-Keep c = λ way services met h.
     c.is_some.ensures
     ∙ held-some pmt_held c.pmt.result
     ∙ ap is_some (c.pmt.ensures met h.forced)
-    ∙ there-kept c.args.service (pat_of met) (pmt_of c.args.service met) in_pat
+    ∙ there-kept c.in-Keep.field-0 c.args.service (pat_of met) (pmt_of c.args.service met) in_pat
     ∙ ap (λ w. is_there w c.args.service (pat_of met) (pmt_of c.args.service met)) (sym c.in-Keep.is ∙ h.same_way)
 
 pub returns-in-Remove : goal.returns-in-Remove
