@@ -12,9 +12,11 @@ import time
 TOP = pathlib.Path(__file__).resolve().parents[2]
 
 Row = collections.namedtuple("Row", "name kind count")
-Page = collections.namedtuple("Page", "tag name front item each back")
+Page = collections.namedtuple("Page", "tag name front item each back groups", defaults=((),))
+Group = collections.namedtuple("Group", "name values rows")
 
-# Where `back` is None the items, if there are any, go up to the end.
+# Where `back` is None the items, if there are any, go up to the end. A group's rows are there where the field of its name is one of
+# its values; where it has no name, they always are.
 
 
 class Unsure(Exception):
@@ -46,8 +48,24 @@ def rows_of(text):
     return rows
 
 
+def grouped_page(tag, name, fields):
+    """A page whose first fields say which others are there."""
+    chunks = [chunk.strip("; ") for chunk in re.split(r"(if `\w+` is [^:]*: \([^)]*\))", fields)]
+    told = [(re.fullmatch(r"if `(\w+)` is ([^:]*): \((.*)\)", chunk), chunk) for chunk in chunks if chunk]
+    texts = [found[3] if found else chunk for found, chunk in told]
+    rows, groups = rows_of(";".join(texts)), []
+    for (found, _), text in zip(told, texts):
+        count = len(rows_of(text))
+        values = [int(value) for value in found[2].split(" or ")] if found else []
+        groups.append(Group(found[1] if found else None, values, rows[:count]))
+        rows = rows[count:]
+    return Page(tag, name, groups[0].rows, None, None, None, groups[1:])
+
+
 def page_of(line):
     tag, name, _, fields, _ = (part.strip() for part in line.strip("|\n").split(" | "))
+    if "if `" in fields:
+        return grouped_page(int(tag, 16), name.strip("`"), fields)
     loop = re.search(r"(each|counted) `(\w+)`: \((.*?)\)", fields)
     if not loop:
         return Page(int(tag, 16), name.strip("`"), rows_of(fields), None, None, None)
@@ -151,6 +169,10 @@ def items_of(page, bits):
     return items
 
 
+def is_there(group, element):
+    return group.name is None or int(element[group.name]) in group.values
+
+
 def with_texts(element):
     """The element with its bytes as texts."""
     if isinstance(element, list):
@@ -169,6 +191,9 @@ def shown(page, body):
         elif page.item:
             element["#nodes"] = items_of(page, Bits(bits.data(bits.number(8))))
             element.update(values_of(page.back, bits))
+        for group in page.groups:
+            if is_there(group, element):
+                element.update(values_of(group.rows, bits))
         if bits.left:
             return None
     except Outside:
@@ -218,13 +243,20 @@ def drawn_rows(chance, rows):
     return "".join(drawn_row(chance, row) for row in rows)
 
 
+def bytes_of(bits):
+    return int("1" + bits, 2).to_bytes(len(bits) // 8 + 1, "big")[1:]
+
+
 def drawn(chance, page):
     """A body of the page, of at most 255 bytes."""
     bits = drawn_rows(chance, page.front)
     if page.item:
         items = "".join(drawn_rows(chance, page.each) for _ in range(chance.randrange(4)))
         bits += items if page.back is None else f"{len(items) // 8:08b}" + items + drawn_rows(chance, page.back)
-    return int("1" + bits, 2).to_bytes(len(bits) // 8 + 1, "big")[1:]
+    if page.groups:
+        front = values_of(page.front, Bits(bytes_of(bits)))
+        bits += "".join(drawn_rows(chance, group.rows) for group in page.groups if is_there(group, front))
+    return bytes_of(bits)
 
 
 def spoiled(chance, body):

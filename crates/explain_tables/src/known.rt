@@ -3,8 +3,9 @@ use serde_json::Value;
 use std::alloc::AllocError;
 use ts_charsets::all_text_tables;
 use ts_fields::{Field, Kind, Layout};
+use ts_groups::FieldGroup;
 use ts_json_tables::{short_layout_named, tot_fields};
-use ts_shown_pages::{layout_named, layout_of};
+use ts_shown_pages::{groups_of, layout_named, layout_of};
 use ts_table_pages::{
     bat_layout, cat_layout, eit_layout, nit_layout, pat_layout, pmt_layout, sdt_layout,
 };
@@ -109,6 +110,17 @@ fn rows_of(place: Place<'_>) -> (&'static [Field], &'static [Field]) {
     }
 }
 
+// The groups of further fields of a descriptor, which are there by the values of others.
+fn groups_at(place: Place<'_>) -> &'static [FieldGroup] {
+    let Some(page) = layout_named(place.name) else {
+        return &[];
+    };
+    match groups_of(page.tag) {
+        Some(groups) => groups,
+        None => &[],
+    }
+}
+
 // Puts the keys of a table that its rows do not name.
 fn put_table_keys(text: &mut String, table: &TableLayout) -> Result<(), AllocError> {
     text.push_str(" version current")?;
@@ -139,6 +151,20 @@ fn put_names(text: &mut String, rows: &[Field]) -> Result<(), AllocError> {
     Ok(())
 }
 
+// Puts the names of fields that may be there; those that are there by the value of another one are in brackets.
+fn put_grouped_names(text: &mut String, groups: &[FieldGroup]) -> Result<(), AllocError> {
+    for group in groups {
+        if group.when.is_some() {
+            text.push_str(" (by another field:")?;
+            put_names(text, group.rows)?;
+            text.push(')')?;
+        } else {
+            put_names(text, group.rows)?;
+        }
+    }
+    Ok(())
+}
+
 /// Puts a line with the keys that an element may have; nothing where its pages do not tell them.
 pub(crate) fn put_known_keys(text: &mut String, place: Place<'_>) -> Result<(), AllocError> {
     let table = table_named(place.name);
@@ -152,6 +178,7 @@ pub(crate) fn put_known_keys(text: &mut String, place: Place<'_>) -> Result<(), 
     }
     put_names(text, first)?;
     put_names(text, later)?;
+    put_grouped_names(text, groups_at(place))?;
     text.push('\n')
 }
 
@@ -249,12 +276,26 @@ fn row_named<'a>(rows: &'a [Field], name: &str) -> Option<&'a Field> {
     None
 }
 
+// The row of this name in groups of fields.
+fn grouped_row_named(groups: &'static [FieldGroup], name: &str) -> Option<&'static Field> {
+    for group in groups {
+        if let Some(row) = row_named(group.rows, name) {
+            return Some(row);
+        }
+    }
+    None
+}
+
 /// Puts a line with the form of the value of a key; nothing where the pages do not tell it.
 pub(crate) fn put_form(text: &mut String, place: Place<'_>, key: &str) -> Result<(), AllocError> {
     let (first, later) = rows_of(place);
     let found = match row_named(first, key) {
         Some(row) => Some(row),
         None => row_named(later, key),
+    };
+    let found = match found {
+        Some(row) => Some(row),
+        None => grouped_row_named(groups_at(place), key),
     };
     match found {
         Some(row) if !key.is_empty() => {

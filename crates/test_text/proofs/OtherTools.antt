@@ -11,9 +11,22 @@ use Rattle.ts_days.specs.DayTexts.{day_text}
 use Rattle.ts_days.specs.TimeTexts.{start_text, time_text}
 use Rattle.ts_fields.specs.Times.{is_pair, is_start, is_time}
 use Rattle.ts_fields.specs.Reading.{read_number, read_bytes, read_decimal, read_rest, read_field, read_rows}
+use Rattle.ts_groups.specs.Groups.{read_grouped}
 use Rattle.ts_jtree.proofs.OnLiterals.{shown_on_literals}
 use Rattle.ts_json_descr.specs.DescrElements.{descr_shown}
 use Rattle.ts_shown_pages.specs.Pages.{second_quarter, third_quarter, last_quarter}
+
+-- 0x02, of biTStream
+video-stream-row : compact_text (descr_shown (record { tag = 0x02; body = 0x9F ∷ [] }))
+    ≡ codes "{\"#name\":\"video_stream_descriptor\",\"MPEG_1_only\":true,\"constrained_parameter\":true,\"frame_rate_code\":3,\"multiple_frame_rate\":true,\"still_picture\":true}"
+unfolding bits number_of read_number read_bytes read_decimal read_rest read_field read_rows read_page read_after read_items read_loop read_grouped second_quarter third_quarter last_quarter shown_on_literals
+video-stream-row = refl
+
+-- 0x02, of biTStream
+video-stream-row-2 : compact_text (descr_shown (record { tag = 0x02; body = 0xA3 ∷ 0x48 ∷ 0x9F ∷ [] }))
+    ≡ codes "{\"#name\":\"video_stream_descriptor\",\"MPEG_1_only\":false,\"chroma_format\":2,\"constrained_parameter\":true,\"frame_rate_code\":4,\"frame_rate_extension\":false,\"multiple_frame_rate\":true,\"profile_and_level_indication\":72,\"still_picture\":true}"
+unfolding bits number_of read_number read_bytes read_decimal read_rest read_field read_rows read_page read_after read_items read_loop read_grouped second_quarter third_quarter last_quarter shown_on_literals
+video-stream-row-2 = refl
 
 -- 0x03, of biTStream
 audio-stream-row : compact_text (descr_shown (record { tag = 0x03; body = 0xEF ∷ [] }))
@@ -321,11 +334,29 @@ pdc-row-2 : compact_text (descr_shown (record { tag = 0x69; body = 0xF5 ∷ 0xD8
 unfolding bits number_of read_number read_bytes read_decimal read_rest read_field read_rows read_page read_after read_items read_loop second_quarter third_quarter last_quarter shown_on_literals
 pdc-row-2 = refl
 
+-- 0x6A, of biTStream
+ac3-row : compact_text (descr_shown (record { tag = 0x6A; body = 0xFF ∷ 0x0A ∷ 0x14 ∷ 0x1E ∷ 0x28 ∷ [] }))
+    ≡ codes "{\"#name\":\"AC3_descriptor\",\"additional_info\":\"\",\"asvc\":40,\"asvc_flag\":true,\"bsid\":20,\"bsid_flag\":true,\"component_type\":10,\"component_type_flag\":true,\"mainid\":30,\"mainid_flag\":true,\"reserved\":15}"
+unfolding bits number_of read_number read_bytes read_decimal read_rest read_field read_rows read_page read_after read_items read_loop read_grouped second_quarter third_quarter last_quarter shown_on_literals
+ac3-row = refl
+
+-- 0x6A, of DVBlast
+ac3-row-2 : compact_text (descr_shown (record { tag = 0x6A; body = 0x00 ∷ [] }))
+    ≡ codes "{\"#name\":\"AC3_descriptor\",\"additional_info\":\"\",\"asvc_flag\":false,\"bsid_flag\":false,\"component_type_flag\":false,\"mainid_flag\":false}"
+unfolding bits number_of read_number read_bytes read_decimal read_rest read_field read_rows read_page read_after read_items read_loop read_grouped second_quarter third_quarter last_quarter shown_on_literals
+ac3-row-2 = refl
+
 -- 0x6B, of biTStream
 ancillary-data-row : compact_text (descr_shown (record { tag = 0x6B; body = 0xD5 ∷ [] }))
     ≡ codes "{\"#name\":\"ancillary_data_descriptor\",\"ancillary_data_identifier\":213}"
 unfolding bits number_of read_number read_bytes read_decimal read_rest read_field read_rows read_page read_after read_items read_loop second_quarter third_quarter last_quarter shown_on_literals
 ancillary-data-row = refl
+
+-- 0x7A, of biTStream
+enhanced-ac3-row : compact_text (descr_shown (record { tag = 0x7A; body = 0xFF ∷ 0x0A ∷ 0x14 ∷ 0x1E ∷ 0x28 ∷ 0x32 ∷ 0x3C ∷ 0x46 ∷ [] }))
+    ≡ codes "{\"#name\":\"enhanced_AC3_descriptor\",\"additional_info\":\"\",\"asvc\":40,\"asvc_flag\":true,\"bsid\":20,\"bsid_flag\":true,\"component_type\":10,\"component_type_flag\":true,\"mainid\":30,\"mainid_flag\":true,\"mixinfoexists\":true,\"substream1\":50,\"substream1_flag\":true,\"substream2\":60,\"substream2_flag\":true,\"substream3\":70,\"substream3_flag\":true}"
+unfolding bits number_of read_number read_bytes read_decimal read_rest read_field read_rows read_page read_after read_items read_loop read_grouped second_quarter third_quarter last_quarter shown_on_literals
+enhanced-ac3-row = refl
 
 -- 0x7B, of biTStream
 dts-row : compact_text (descr_shown (record { tag = 0x7B; body = 0x82 ∷ 0xC2 ∷ 0x80 ∷ 0xBE ∷ 0x1E ∷ [] }))

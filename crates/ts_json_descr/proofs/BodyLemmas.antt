@@ -1,5 +1,5 @@
 -- What is read from an element has the shape that its rows ask for, and how large it is.
-use Rattle.std.proofs.Common.{◌≡◌, ℕ, ◌+◌, ◌*◌, ◌<◌, ◌≤◌, Bool, true, false, List, [], ◌∷◌, ◌++◌, length, refl, sym, ap, ◌∙◌, arith}
+use Rattle.std.proofs.Common.{◌≡◌, ℕ, ◌+◌, ◌*◌, ◌<◌, ◌≤◌, Bool, true, false, List, [], ◌∷◌, ◌++◌, length, refl, sym, ap, ◌∙◌, arith, append-nil}
 use Rattle.std.specs.Prelude.{Option, Some, None, Ok, Err, option_to_list, nat_lt, nat_le, ◌&&◌, if◌then◌else◌}
 use Rattle.std.proofs.lemmas.Bool.{lt-ltb, leb-true}
 use Rattle.serde_json.specs.Data.{Data, Items, no_items, item, Members}
@@ -8,6 +8,8 @@ use Rattle.ts_fields.specs.Bits.{bits_of}
 use Rattle.ts_fields.specs.Bodies.{Page, Holding, all_shaped, items_shaped, page_shaped, spell_page}
 use Rattle.ts_fields.specs.Fitting.{shaped}
 use Rattle.ts_fields.specs.Layout.{Row, Held, number, bytes}
+use Rattle.ts_fields.specs.Spelling.{spell_rows}
+use Rattle.ts_groups.specs.Groups.{fields_alone, values_alone}
 use Rattle.ts_jtree.specs.declared.fault.JsonKind.TheVariants.{OutOfRange}
 use Rattle.ts_jtree.specs.declared.fault.JsonFault.{JsonFault}
 use Rattle.ts_jtree.specs.Attributes.{attribute_of, data_attribute, hex_attribute, holds_bytes, holds_number, number_at, number_attribute, number_in, read_attributes, within}
@@ -15,7 +17,7 @@ use Rattle.ts_jtree.specs.Elements.{keys_known, members_of, name_key, name_of, n
 use Rattle.ts_jtree.specs.Faults.{at_child, or_refuse, refuse, ◌>>=◌}
 use Rattle.ts_jtree.specs.Numbers.{number_of}
 use Rattle.ts_json_descr.specs.DescrElements.{generic_page, generic_rows}
-use Rattle.ts_json_descr.specs.DescrReading.{are_tagged, read_children, read_holding, read_item, read_items, read_typed}
+use Rattle.ts_json_descr.specs.DescrReading.{are_tagged, read_children, read_holding, read_item, read_items, read_typed, sized}
 use Rattle.ts_json_descr.proofs.StepLemmas.{both, child_ok, not_more, same_ok, then_ok}
 
 -- what the law of attributes says, by the contract of the crate below
@@ -73,26 +75,37 @@ holding_shaped shapes p ms h is =
     let e : record { head = head; items = items } ≡ h = same_ok _ _ b4 in
     rw (← e) (rw (shapes p.head ms head a2, children_shaped shapes p.items nodes items a4) refl)))))
 
+pub fields_shaped : Shapes → (p : Page) (rs : List Row) (ms : Members) (values : List Held)
+    → read_holding (fields_alone p rs) ms ≡ Ok (values_alone values) → shaped rs values ≡ true
+fields_shaped shapes p rs ms values is =
+    (both (shaped rs values) true (holding_shaped shapes (fields_alone p rs) ms (values_alone values) is)).0
+
 -- ---- the size of a body
 
 -- a body of so many bytes has eight times as many bits
 abbrev pub Lengths : Type 0
 Lengths = (row : List ℕ) → length (bits_of row) ≡ 8 * length row
 
-pub typed_large : Lengths → (p : Page) (ms : Members) (h : Holding) (b : List ℕ) → read_holding p ms ≡ Ok h
-    → bits_of b ≡ spell_page p h → 255 < length b → read_typed p ms ≡ refuse name_key OutOfRange
-unfolding read_typed
-typed_large lengths p ms h b is same large =
-    let long : 2040 < length (spell_page p h) = omega (arith, ap length same, lengths b) in
-    rw (is, lt-ltb 2040 (length (spell_page p h)) long) refl
+pub sized_large : Lengths → (tag : ℕ) (b : List ℕ) → 255 < length b → sized tag (bits_of b) ≡ refuse name_key OutOfRange
+sized_large lengths tag b large =
+    let long : 2040 < length (bits_of b) = omega (arith, lengths b) in
+    rw (lt-ltb 2040 (length (bits_of b)) long) refl
 
-pub typed_small : Lengths → (p : Page) (ms : Members) (h : Holding) (b : List ℕ) → read_holding p ms ≡ Ok h
-    → bits_of b ≡ spell_page p h → length b ≤ 255 → read_typed p ms ≡ Ok (p.tag, bits_of b)
+pub sized_small : Lengths → (tag : ℕ) (b : List ℕ) → length b ≤ 255 → sized tag (bits_of b) ≡ Ok (tag, bits_of b)
+sized_small lengths tag b small =
+    let short : length (bits_of b) ≤ 2040 = omega (arith, lengths b) in
+    rw (not_more 2040 (length (bits_of b)) (nat_lt 2040 (length (bits_of b))) refl short) refl
+
+pub typed_of : (p : Page) (ms : Members) (h : Holding) (b : List ℕ) → read_holding p ms ≡ Ok h → bits_of b ≡ spell_page p h
+    → read_typed p ms ≡ sized p.tag (bits_of b)
 unfolding read_typed
-typed_small lengths p ms h b is same small =
-    let short : length (spell_page p h) ≤ 2040 = omega (arith, ap length same, lengths b) in
-    rw (is, not_more 2040 (length (spell_page p h)) (nat_lt 2040 (length (spell_page p h))) refl short)
-    (ap (λ l. Ok (p.tag, l)) (sym same))
+typed_of p ms h b is same = rw is (ap (sized p.tag) (sym same))
+
+-- fields alone are spelled as their rows
+pub alone_spelled : (p : Page) (rs : List Row) (values : List Held)
+    → spell_page (fields_alone p rs) (values_alone values) ≡ spell_rows rs values
+unfolding spell_page
+alone_spelled p rs values = append-nil (spell_rows rs values)
 
 -- ---- a generic descriptor
 

@@ -1,7 +1,8 @@
 -- Descriptors as JSON elements.
 -- This project's own rule: a descriptor whose body reads by its tag's page is an element of the page's name,
--- its fields attributes and its items children; every other one is a `generic_descriptor` of tag and bytes.
-use Rattle.std.specs.Prelude.{ℕ, List, [], ◌∷◌, map, codes, Option, Some, None, option_map, option_and_then}
+-- its fields attributes and its items children; every other one is a `generic_descriptor` of tag and bytes. Where the
+-- first fields say which others are there, those that are there have attributes, and no others.
+use Rattle.std.specs.Prelude.{ℕ, Bool, List, [], ◌∷◌, map, codes, Option, Some, None, option_map, option_and_then}
 use Rattle.serde_json.specs.Data.{Data, object, array}
 use Rattle.serde_json.specs.View.{items_of}
 use Rattle.ts_bits.specs.TaggedBody.{TaggedBody}
@@ -9,8 +10,9 @@ use Rattle.ts_fields.specs.declared.field.Kind.TheVariants.{Number, Hex}
 use Rattle.ts_fields.specs.Bits.{bits_of}
 use Rattle.ts_fields.specs.Bodies.{Page, Holding, read_page}
 use Rattle.ts_fields.specs.Layout.{Row, Held, number, bytes}
+use Rattle.ts_groups.specs.Groups.{Group, read_grouped}
 use Rattle.ts_pages.specs.PageRows.{field}
-use Rattle.ts_shown_pages.specs.Pages.{page_of}
+use Rattle.ts_shown_pages.specs.Pages.{groups_of, page_of}
 use Rattle.ts_jtree.specs.Shown.{element_members}
 
 -- the element of an item
@@ -44,9 +46,14 @@ generic_page = record { tag = 0; name = generic_name; head = generic_rows; items
 abbrev pub generic_shown : TaggedBody → Data
 generic_shown d = object (element_members generic_rows generic_name None (number d.tag ∷ bytes d.body ∷ []))
 
--- the page of a descriptor with the values of its body
+-- the page of the fields that are there, with the values of a body; where the page has no groups, it is that page
+abbrev pub read_paged : Page → Option (List Group) → List Bool → Option (Page × Holding)
+read_paged p None from = option_map (λ h. (p, h)) (read_page p from)
+read_paged p (Some groups) from = read_grouped p groups from
+
+-- the same of a descriptor, by its tag
 abbrev pub typed : TaggedBody → Option (Page × Holding)
-typed d = option_and_then (λ p. option_map (λ h. (p, h)) (read_page p (bits_of d.body))) (page_of d.tag)
+typed d = option_and_then (λ p. read_paged p (groups_of p.tag) (bits_of d.body)) (page_of d.tag)
 
 -- the element of a descriptor by its page, or the generic one
 abbrev pub shown_by : Option (Page × Holding) → TaggedBody → Data

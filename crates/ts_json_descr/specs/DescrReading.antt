@@ -1,12 +1,14 @@
 -- Descriptors from JSON elements.
 -- This project's own rule: an element is checked step by step, and then its children in their order; a body
--- of more than 255 bytes is checked last.
-use Rattle.std.specs.Prelude.{ℕ, ◌+◌, ◌<◌, ◌≤◌, Bool, List, [], ◌∷◌, length, bytes_eq, nat_lt, if◌then◌else◌, Option, Some, None, Ok}
+-- of more than 255 bytes is checked last. Where the first fields say which others are there, their attributes are
+-- read before all else: a key of a field that is not there is unknown.
+use Rattle.std.specs.Prelude.{ℕ, ◌+◌, ◌<◌, ◌≤◌, Bool, true, List, [], ◌∷◌, length, bytes_eq, nat_lt, if◌then◌else◌, Option, Some, None, Ok}
 use Rattle.serde_json.specs.Data.{Data, Items, no_items, item, Members}
 use Rattle.ts_fields.specs.Bits.{bits_of}
 use Rattle.ts_fields.specs.Bodies.{Page, Holding, spell_page}
 use Rattle.ts_fields.specs.Layout.{Row, Held, number, bytes}
-use Rattle.ts_shown_pages.specs.Pages.{page_named}
+use Rattle.ts_groups.specs.Groups.{Group, grouped_sound, page_with}
+use Rattle.ts_shown_pages.specs.Pages.{groups_of, page_named}
 use Rattle.ts_jtree.specs.declared.fault.JsonKind.TheVariants.{UnknownKey, OutOfRange}
 use Rattle.ts_jtree.specs.Attributes.{read_attributes}
 use Rattle.ts_jtree.specs.Elements.{name_key, members_of, name_of, keys_known, nodes_of, no_children, read_element}
@@ -52,6 +54,18 @@ read_typed p ms = do
   h ← read_holding p ms
   sized p.tag (spell_page p h)
 
+-- the same, where the first attributes say which others there are
+abbrev pub read_paged : Page → Option (List Group) → Members → Reading (ℕ × List Bool)
+read_paged p None ms = read_typed p ms
+read_paged p (Some groups) ms = do
+  first ← read_attributes p.head ms
+  read_typed (page_with p groups first) ms
+
+-- groups that can be read and written
+abbrev pub groups_sound : Page → Option (List Group) → Bool
+groups_sound p None = true
+groups_sound p (Some groups) = grouped_sound p groups
+
 -- the descriptor of a tag and bytes
 abbrev pub tagged : List Held → Reading (ℕ × List Bool)
 tagged (number tag ∷ bytes body ∷ []) = Ok (tag, bits_of body)
@@ -73,7 +87,7 @@ abbrev pub read_by_name : List ℕ → Members → Reading (ℕ × List Bool)
 read_by_name name ms =
     if bytes_eq name generic_name then read_generic ms else (do
       p ← or_refuse (page_named name) name_key UnknownKey
-      read_typed p ms)
+      read_paged p (groups_of p.tag) ms)
 
 -- the tag and the bits of the body of a descriptor's element
 unfoldable pub descr_read : Data → Reading (ℕ × List Bool)

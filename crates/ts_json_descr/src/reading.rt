@@ -1,25 +1,28 @@
 //! Reading descriptors from JSON elements.
 
-ghost use Rattle.std.specs.Prelude.{◌≡◌, map, IsTrue, option_map};
+ghost use Rattle.std.specs.Prelude.{◌≡◌, map, IsTrue, Some, option_map};
 ghost use Rattle.serde_json.specs.View.{view, items_view, members_view};
 ghost use Rattle.ts_fields.specs.Bits.{bits_of};
 ghost use Rattle.ts_fields.specs.Bodies.{page, page_sound, items_sound, body_held, item_held, item_page};
 ghost use Rattle.ts_fields.specs.Layout.{rows_of, held};
-ghost use Rattle.ts_fields.specs.SoundRows.{are_sound};
+ghost use Rattle.ts_fields.specs.SoundRows.{are_sound, rows_sound};
+ghost use Rattle.ts_groups.specs.Groups.{fields_alone, grouped_sound, groups_in, values_alone};
 ghost use Rattle.ts_jtree.specs.Faults.{Answers, at_child};
 ghost use Rattle.ts_json_descr.specs.DescrReading;
-ghost use Rattle.ts_json_descr.specs.DescrReading.{read_holding, read_by_name, descr_read};
+ghost use Rattle.ts_json_descr.specs.DescrReading.{groups_sound, read_holding, read_by_name, descr_read, sized};
+ghost use Rattle.ts_shown_pages.specs.Pages;
 
 use crate::showing::GENERIC;
 use serde_json::{Map, Value};
 use std::alloc::Global;
 use ts_bits::Descriptor;
-use ts_fields::{Body, FieldValue, Item, ItemLayout, Layout, length_of_bits, write_body};
+use ts_fields::{Body, Field, FieldValue, Item, ItemLayout, Layout, length_of_bits, write_body};
+use ts_groups::{FieldGroup, chosen_page_is_sound, chosen_rows, write_fields};
 use ts_jtree::{
     JsonKind, ReadRefusal, at_child, check_keys, children, element_name, members, no_children,
     read_attributes, read_element, refuse_key, values_are_shaped,
 };
-use ts_shown_pages::layout_named;
+use ts_shown_pages::{groups_of, layout_named};
 
 /// An item, which has no children itself.
 #[tactic(auto, unfolding(crate::specs::DescrReading::read_item))]
@@ -107,6 +110,17 @@ pub fn read_element_body(
     Ok(Body { head, items })
 }
 
+/// The descriptor of a tag and the bytes of a body, which are at most 255.
+fn sized_descr(alloc: Global, tag: u8, bytes: &[u8]) -> Result<Descriptor, ReadRefusal>
+    ensures { Answers (λ d. (d.tag, bits_of d.body)) result (sized tag (bits_of bytes.now)) }
+{
+    length_of_bits();
+    if bytes.len() > 255 {
+        return Err(refuse_key(alloc, "#name", JsonKind::OutOfRange));
+    }
+    Ok(Descriptor::new(alloc, tag, bytes)?)
+}
+
 /// The descriptor of an element of a page.
 #[tactic(auto, unfolding(crate::specs::DescrReading::read_typed))]
 fn read_typed(
@@ -120,12 +134,78 @@ fn read_typed(
 {
     let body = read_element_body(alloc, layout, members)?;
     values_are_shaped();
-    length_of_bits();
     let bytes = write_body(alloc, layout, &body)?;
-    if bytes.len() > 255 {
-        return Err(refuse_key(alloc, "#name", JsonKind::OutOfRange));
+    sized_descr(alloc, layout.tag, &bytes)
+}
+
+/// The values of an element of these fields alone, which has no children, or the first fault of the element.
+#[tactic(auto, unfolding(crate::specs::DescrReading::read_holding, crate::specs::DescrReading::read_children))]
+fn read_fields(
+    alloc: Global,
+    layout: &Layout,
+    rows: &[Field],
+    members: &Map<String, Value>,
+) -> Result<Vec<FieldValue>, ReadRefusal>
+    requires { IsTrue (are_sound (rows_of rows.now)) }
+    ensures { Answers (λ v. values_alone (map held v.items)) result
+        (read_holding (fields_alone (page layout.now) (rows_of rows.now)) (members_view members.now.entries)) }
+{
+    check_keys(alloc, rows, members)?;
+    let values = read_attributes(alloc, rows, members)?;
+    no_children(alloc, children(alloc, members)?)?;
+    Ok(values)
+}
+
+/// The descriptor of an element of these fields alone.
+#[tactic(auto, unfolding(crate::specs::DescrReading::read_typed))]
+fn read_alone(
+    alloc: Global,
+    layout: &Layout,
+    rows: &[Field],
+    members: &Map<String, Value>,
+) -> Result<Descriptor, ReadRefusal>
+    requires { IsTrue (rows_sound (rows_of rows.now)) }
+    ensures { Answers (λ d. (d.tag, bits_of d.body)) result
+        (DescrReading.read_typed (fields_alone (page layout.now) (rows_of rows.now)) (members_view members.now.entries)) }
+{
+    let values = read_fields(alloc, layout, rows, members)?;
+    values_are_shaped();
+    let bytes = write_fields(alloc, rows, &values)?;
+    sized_descr(alloc, layout.tag, &bytes)
+}
+
+/// The descriptor of an element whose first attributes say which others there are.
+fn read_by_groups(
+    alloc: Global,
+    layout: &Layout,
+    groups: &[FieldGroup],
+    members: &Map<String, Value>,
+) -> Result<Descriptor, ReadRefusal>
+    requires { IsTrue (grouped_sound (page layout.now) (groups_in groups.now)) }
+    ensures { Answers (λ d. (d.tag, bits_of d.body)) result
+        (DescrReading.read_paged (page layout.now) (Some (groups_in groups.now)) (members_view members.now.entries)) }
+{
+    let first = read_attributes(alloc, layout.head, members)?;
+    let rows = chosen_rows(alloc, layout.head, groups, &first)?;
+    chosen_page_is_sound();
+    read_alone(alloc, layout, &rows, members)
+}
+
+/// The descriptor of an element of a page, with groups or without.
+fn read_paged(
+    alloc: Global,
+    layout: &Layout,
+    members: &Map<String, Value>,
+) -> Result<Descriptor, ReadRefusal>
+    requires page { IsTrue (page_sound (page layout.now)) }
+    requires groups { IsTrue (groups_sound (page layout.now) (Pages.groups_of layout.now.tag)) }
+    ensures { Answers (λ d. (d.tag, bits_of d.body)) result
+        (DescrReading.read_paged (page layout.now) (Pages.groups_of layout.now.tag) (members_view members.now.entries)) }
+{
+    match groups_of(layout.tag) {
+        None => read_typed(alloc, layout, members),
+        Some(groups) => read_by_groups(alloc, layout, groups, members),
     }
-    Ok(Descriptor::new(alloc, layout.tag, &bytes)?)
 }
 
 /// The descriptor with a tag and bytes.
@@ -162,7 +242,7 @@ fn read_named(
         return read_generic(alloc, members);
     }
     match layout_named(name) {
-        Some(layout) => read_typed(alloc, layout, members),
+        Some(layout) => read_paged(alloc, layout, members),
         None => Err(refuse_key(alloc, "#name", JsonKind::UnknownKey)),
     }
 }

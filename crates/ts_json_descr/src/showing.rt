@@ -1,19 +1,22 @@
 //! Showing descriptors as JSON elements.
 
-ghost use Rattle.std.specs.Prelude.{◌≡◌, ◌∷◌, [], map, option_map, true, IfOk};
+ghost use Rattle.std.specs.Prelude.{◌≡◌, ◌∷◌, [], map, option_map, true, None, Some, IfOk, IsTrue};
 ghost use Rattle.serde_json.specs.View.{view};
-ghost use Rattle.ts_fields.specs.Bodies.{page, page_fits, body_held, item_held, item_page, all_fit, items_fit};
+ghost use Rattle.ts_fields.specs.Bits.{bits_of};
+ghost use Rattle.ts_fields.specs.Bodies.{page, page_fits, page_sound, body_held, item_held, item_page, all_fit, items_fit};
 ghost use Rattle.ts_fields.specs.Fitting.{fits};
 ghost use Rattle.ts_fields.specs.Layout.{rows_of, held, number, bytes};
+ghost use Rattle.ts_groups.specs.Groups.{fields_alone, grouped_sound, groups_in, values_alone};
 ghost use Rattle.ts_json_descr.specs.DescrElements;
-ghost use Rattle.ts_json_descr.specs.DescrElements.{descr_shown, body_shown, item_shown, items_shown, generic_shown};
+ghost use Rattle.ts_json_descr.specs.DescrElements.{descr_shown, body_shown, item_shown, items_shown, generic_shown, shown_by};
 
 use serde_json::Value;
 use std::alloc::{AllocError, Global};
 use ts_bits::Descriptor;
 use ts_fields::{Body, Field, FieldValue, Item, ItemLayout, Kind, Layout, NotRead, read_body};
+use ts_groups::{FieldGroup, GroupedBody, read_grouped};
 use ts_jtree::{element_json, fit_is_shown};
-use ts_shown_pages::layout_of;
+use ts_shown_pages::{groups_of, layout_of};
 
 /// The layout of a descriptor without a page: tag and bytes.
 pub static GENERIC: Layout = Layout {
@@ -45,11 +48,51 @@ pub fn descr_json(alloc: Global, from: &Descriptor) -> Result<Value, AllocError>
     let Some(layout) = layout_of(from.tag()) else {
         return generic_json(alloc, from);
     };
+    match groups_of(layout.tag) {
+        None => plain_json(alloc, layout, from),
+        Some(groups) => grouped_json(alloc, layout, groups, from),
+    }
+}
+
+/// The element of a descriptor by a page whose fields are always the same.
+fn plain_json(alloc: Global, layout: &Layout, from: &Descriptor) -> Result<Value, AllocError>
+    requires { IsTrue (page_sound (page layout.now)) }
+    ensures { IfOk result (λ v. view v
+        ≡ shown_by (DescrElements.read_paged (page layout.now) None (bits_of from.now.body)) from.now) }
+{
     match read_body(alloc, layout, from.body()) {
         Ok(body) => body_json(alloc, layout, &body),
         Err(NotRead::NoMemory) => Err(AllocError),
         Err(NotRead::Outside) => generic_json(alloc, from),
     }
+}
+
+/// The element of a descriptor by a page whose first fields say which others are there.
+fn grouped_json(
+    alloc: Global,
+    layout: &Layout,
+    groups: &[FieldGroup],
+    from: &Descriptor,
+) -> Result<Value, AllocError>
+    requires { IsTrue (grouped_sound (page layout.now) (groups_in groups.now)) }
+    ensures { IfOk result (λ v. view v
+        ≡ shown_by (DescrElements.read_paged (page layout.now) (Some (groups_in groups.now)) (bits_of from.now.body)) from.now) }
+{
+    match read_grouped(alloc, layout, groups, from.body()) {
+        Ok(body) => alone_json(alloc, layout, &body),
+        Err(NotRead::NoMemory) => Err(AllocError),
+        Err(NotRead::Outside) => generic_json(alloc, from),
+    }
+}
+
+/// The element of the fields that are there.
+fn alone_json(alloc: Global, layout: &Layout, body: &GroupedBody) -> Result<Value, AllocError>
+    requires { fits (rows_of body.now.rows.items) (map held body.now.values.items) ≡ true }
+    ensures { IfOk result (λ v. view v
+        ≡ body_shown (fields_alone (page layout.now) (rows_of body.now.rows.items)) (values_alone (map held body.now.values.items))) }
+{
+    fit_is_shown();
+    element_json(alloc, layout.name, &body.rows, &body.values, None)
 }
 
 /// The element of a tag and bytes.

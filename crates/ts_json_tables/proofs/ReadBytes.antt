@@ -22,7 +22,8 @@ use Rattle.ts_jtree.specs.Elements.{keys_known, members_of, name_key, name_of, n
 use Rattle.ts_jtree.specs.Faults.{Reading, at_child, or_refuse, refuse, ◌>>=◌}
 use Rattle.ts_json_descr.specs.DescrElements.{generic_name, generic_page, generic_rows}
 use Rattle.ts_json_descr.specs.DescrReading as descrs
-use Rattle.ts_json_descr.specs.DescrReading.{descr_read, read_generic, read_holding, read_typed, tagged}
+use Rattle.ts_json_descr.specs.DescrReading.{descr_read, read_generic, read_holding, read_paged, read_typed, tagged}
+use Rattle.ts_groups.specs.Groups.{Group, page_with}
 use Rattle.ts_shown_pages.specs.Pages as descr_pages
 use Rattle.ts_shown_pages.specs.Pages.{second_quarter, third_quarter, last_quarter}
 use Rattle.ts_table_rows.specs.BodySpelling.{bytes_of}
@@ -191,12 +192,17 @@ tags_small : list_all (λ q. nat_lt q.tag 256) descr_pages.pages ≡ true
 unfolding second_quarter third_quarter last_quarter
 tags_small = refl
 
-typed_sized : (name : List ℕ) (p : Page) (ms : Members) (y : ℕ × List Bool) → descr_pages.page_named name ≡ Some p → read_typed p ms ≡ Ok y → IsSized y
+typed_sized : (p : Page) (ms : Members) (y : ℕ × List Bool) → p.tag < 256 → read_typed p ms ≡ Ok y → IsSized y
 unfolding read_typed
-typed_sized name p ms y at is =
+typed_sized p ms y small is =
     then_ok (read_holding p ms) _ y is (λ h was later.
-    sized_by (nat_lt 2040 (length (spell_page p h))) p.tag (spell_page p h) y refl
-    (found_small (λ q. bytes_eq name q.name) descr_pages.pages p tags_small at) later)
+    sized_by (nat_lt 2040 (length (spell_page p h))) p.tag (spell_page p h) y refl small later)
+
+paged_sized : (p : Page) (groups : Option (List Group)) (ms : Members) (y : ℕ × List Bool) → p.tag < 256
+    → read_paged p groups ms ≡ Ok y → IsSized y
+paged_sized p None ms y small is = typed_sized p ms y small is
+paged_sized p (Some groups) ms y small is =
+    then_ok (read_attributes p.head ms) _ y is (λ first was later. typed_sized (page_with p groups first) ms y small later)
 
 -- the row of the bytes of a generic element
 abbrev generic_data : Row
@@ -239,11 +245,12 @@ descr_sized law value y is =
     then_ok (members_of value) _ y is (λ ms a1 b1.
     then_ok (name_of ms) _ y b1 (λ name a2 b2. by_name ms name (bytes_eq name generic_name) b2))
   where
-    typed : (ms : Members) (name : List ℕ) (o : Option Page) → descr_pages.page_named name ≡ o → (or_refuse o name_key UnknownKey >>= λ p. read_typed p ms) ≡ Ok y → IsSized y
+    typed : (ms : Members) (name : List ℕ) (o : Option Page) → descr_pages.page_named name ≡ o → (or_refuse o name_key UnknownKey >>= λ p. read_paged p (descr_pages.groups_of p.tag) ms) ≡ Ok y → IsSized y
     typed ms name None at read = cc
-    typed ms name (Some p) at read = typed_sized name p ms y at read
+    typed ms name (Some p) at read =
+        paged_sized p (descr_pages.groups_of p.tag) ms y (found_small (λ q. bytes_eq name q.name) descr_pages.pages p tags_small at) read
 
-    by_name : (ms : Members) (name : List ℕ) (b : Bool) → (if b then read_generic ms else (or_refuse (descr_pages.page_named name) name_key UnknownKey >>= λ p. read_typed p ms)) ≡ Ok y → IsSized y
+    by_name : (ms : Members) (name : List ℕ) (b : Bool) → (if b then read_generic ms else (or_refuse (descr_pages.page_named name) name_key UnknownKey >>= λ p. read_paged p (descr_pages.groups_of p.tag) ms)) ≡ Ok y → IsSized y
     by_name ms name true read = generic_sized law ms y read
     by_name ms name false read = typed ms name (descr_pages.page_named name) refl read
 

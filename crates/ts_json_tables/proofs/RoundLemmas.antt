@@ -15,7 +15,7 @@ use Rattle.ts_jtree.specs.Faults.{Reading, or_refuse, ◌>>=◌}
 use Rattle.ts_jtree.specs.Shown.{are_within, element_members, rows_show}
 use Rattle.ts_shown_pages.specs.Pages as descrs
 use Rattle.ts_json_descr.specs.DescrElements.{descr_shown, generic_name}
-use Rattle.ts_json_descr.specs.DescrReading.{descr_read, read_generic, read_typed}
+use Rattle.ts_json_descr.specs.DescrReading.{descr_read, read_generic, read_paged}
 use Rattle.ts_table_rows.specs.TableFitting.{item_fits, items_fit, none_there}
 use Rattle.ts_table_rows.specs.TablePages.{ItemPage, TablePage}
 use Rattle.ts_table_rows.specs.TableSections.{own_thing, item_thing, items_in, owns_in}
@@ -81,7 +81,7 @@ record Called (value : Data) (y : ℕ × List Bool) : Type 0 where
   called : List ℕ
   object : members_of value ≡ Ok ms
   named : name_of ms ≡ Ok called
-  whole : (if bytes_eq called generic_name then read_generic ms else (or_refuse (descrs.page_named called) name_key UnknownKey >>= λ p. read_typed p ms)) ≡ Ok y
+  whole : (if bytes_eq called generic_name then read_generic ms else (or_refuse (descrs.page_named called) name_key UnknownKey >>= λ p. read_paged p (descrs.groups_of p.tag) ms)) ≡ Ok y
 
 called_of : (value : Data) (y : ℕ × List Bool) → descr_read value ≡ Ok y → Called value y
 unfolding descr_read
@@ -93,17 +93,17 @@ called_of value y is =
 -- its name is not an item's
 other_by : (b : Bool) (ms : Members) (name called : List ℕ) (y : ℕ × List Bool) → bytes_eq called name ≡ b
     → bytes_eq name generic_name ≡ false → descrs.page_named name ≡ None
-    → (if bytes_eq called generic_name then read_generic ms else (or_refuse (descrs.page_named called) name_key UnknownKey >>= λ p. read_typed p ms)) ≡ Ok y
+    → (if bytes_eq called generic_name then read_generic ms else (or_refuse (descrs.page_named called) name_key UnknownKey >>= λ p. read_paged p (descrs.groups_of p.tag) ms)) ≡ Ok y
     → bytes_eq called name ≡ false
 other_by false ms name called y at own none is = at
 other_by true ms name called y at own none is =
     let same : called ≡ name = (bytes_eq-Decides called name).0 at in
-    absurd (never (subst (λ n. (if bytes_eq n generic_name then read_generic ms else (or_refuse (descrs.page_named n) name_key UnknownKey >>= λ p. read_typed p ms)) ≡ Ok y) same is))
+    absurd (never (subst (λ n. (if bytes_eq n generic_name then read_generic ms else (or_refuse (descrs.page_named n) name_key UnknownKey >>= λ p. read_paged p (descrs.groups_of p.tag) ms)) ≡ Ok y) same is))
   where
     refused : ◌≡◌ {A = Reading (ℕ × List Bool)} (or_refuse None name_key UnknownKey) (Ok y) → ⊥
     refused read = cc
 
-    never : (if bytes_eq name generic_name then read_generic ms else (or_refuse (descrs.page_named name) name_key UnknownKey >>= λ p. read_typed p ms)) ≡ Ok y → ⊥
+    never : (if bytes_eq name generic_name then read_generic ms else (or_refuse (descrs.page_named name) name_key UnknownKey >>= λ p. read_paged p (descrs.groups_of p.tag) ms)) ≡ Ok y → ⊥
     never read = refused (rw (own, none) at read)
 
 own_again : Laws → (i : Option ItemPage) (d : TaggedBody) (ms : Members) (name : List ℕ) → IsDescriptor d

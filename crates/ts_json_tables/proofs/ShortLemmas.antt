@@ -20,7 +20,8 @@ use Rattle.ts_jtree.specs.Elements.{nodes_key}
 use Rattle.ts_jtree.specs.Faults.{refuse}
 use Rattle.ts_jtree.specs.Shown.{rows_show}
 use Rattle.ts_json_descr.specs.DescrReading.{read_holding}
-use Rattle.ts_json_descr.proofs.PageLemmas.{items_show, plain}
+use Rattle.ts_json_descr.proofs.GroupLemmas.{plain}
+use Rattle.ts_json_descr.proofs.PageLemmas.{items_show}
 use Rattle.ts_json_descr.proofs.StepLemmas.{not_more}
 use Rattle.ts_section.specs.Crc.{crc_of}
 use Rattle.ts_section.specs.WrittenSection.{first_three, four_bytes}

@@ -14,6 +14,7 @@ ghost use Rattle.ts_json_tables.specs.ToldTables.{IsKept, TellsTable, told_again
 
 use ts_bits::loops_are_whole_or_cut;
 use ts_fields::{length_of_bits, length_of_read_rows, read_bytes_are_spelled, read_is_written};
+use ts_groups::grouped_is_written;
 use ts_json_descr::shown_descr_is_read;
 use ts_jtree::element_shows;
 use ts_section::made_sections_are_valid;
@@ -31,6 +32,7 @@ pub fn shown_table_is_read()
     loops_are_whole_or_cut();
     read_bytes_are_spelled();
     read_is_written();
+    grouped_is_written();
 }
 
 /// The element of a table has only whole numbers and is at most seven arrays and objects deep, so that `serde_json`

@@ -1,9 +1,31 @@
 -- The pages of descriptors that have no struct, or that JSON shows with reserved bits. Written by tools/pages from pages.txt.
 -- ISO/IEC 13818-1, 2.6, ETSI EN 300 468, 6.2 and its annexes, and the documents that are named.
-use Rattle.std.specs.Prelude.{[], ◌∷◌, codes}
-use Rattle.ts_fields.specs.declared.field.Kind.TheVariants.{Number, Decimal, Flag, Start, Language, CountedText, CountedHex, Text, Hex, Reserved}
+use Rattle.std.specs.Prelude.{List, [], ◌∷◌, codes}
+use Rattle.ts_fields.specs.declared.field.Kind.TheVariants.{Number, Decimal, Flag, Start, Language, CountedText, CountedHex, Text, Hex, Reserved, Zeros}
 use Rattle.ts_fields.specs.Bodies.{Page}
+use Rattle.ts_groups.specs.Groups.{Group, always, by_value, false_if_absent}
 use Rattle.ts_pages.specs.PageRows.{around_items, field, of_fields, of_items, reserved, with_items}
+
+-- ISO/IEC 13818-1, 2.6.2: how a video component is coded
+abbrev pub video_stream : Page
+video_stream = of_fields 0x02 (codes "video_stream_descriptor") (
+    field (codes "multiple_frame_rate") Flag
+    ∷ field (codes "frame_rate_code") (Number 4)
+    ∷ false_if_absent (codes "MPEG_1_only")
+    ∷ field (codes "constrained_parameter") Flag
+    ∷ field (codes "still_picture") Flag
+    ∷ [])
+
+-- the fields of the video_stream_descriptor by what its first fields say
+abbrev pub video_stream_groups : List Group
+video_stream_groups =
+    by_value 2 (0 ∷ []) (
+    field (codes "profile_and_level_indication") (Number 8)
+    ∷ field (codes "chroma_format") (Number 2)
+    ∷ field (codes "frame_rate_extension") Flag
+    ∷ field (codes "reserved") (Reserved 5)
+    ∷ [])
+    ∷ []
 
 -- ISO/IEC 13818-1, 2.6.4: how an audio component is coded
 abbrev pub audio_stream : Page
@@ -109,6 +131,38 @@ mpeg2_aac_audio = of_fields 0x2B (codes "MPEG2_AAC_audio_descriptor") (
     ∷ field (codes "MPEG2_AAC_channel_configuration") (Number 8)
     ∷ field (codes "MPEG2_AAC_additional_information") (Number 8)
     ∷ [])
+
+-- ISO/IEC 13818-1, 2.6.95: the profile and level of an H.265 video component
+abbrev pub hevc_video : Page
+hevc_video = of_fields 0x38 (codes "HEVC_video_descriptor") (
+    field (codes "profile_space") (Number 2)
+    ∷ field (codes "tier") Flag
+    ∷ field (codes "profile_idc") (Number 5)
+    ∷ field (codes "profile_compatibility_indication") (Number 32)
+    ∷ field (codes "progressive_source") Flag
+    ∷ field (codes "interlaced_source") Flag
+    ∷ field (codes "non_packed_constraint") Flag
+    ∷ field (codes "frame_only_constraint") Flag
+    ∷ field (codes "copied_44bits") (Number 44)
+    ∷ field (codes "level_idc") (Number 8)
+    ∷ false_if_absent (codes "temporal_layer_subset_flag")
+    ∷ field (codes "HEVC_still_present") Flag
+    ∷ field (codes "HEVC_24hr_picture_present") Flag
+    ∷ field (codes "sub_pic_hrd_params_not_present") Flag
+    ∷ field (codes "reserved") (Reserved 2)
+    ∷ field (codes "HDR_WCG_idc") (Number 2)
+    ∷ [])
+
+-- the fields of the HEVC_video_descriptor by what its first fields say
+abbrev pub hevc_video_groups : List Group
+hevc_video_groups =
+    by_value 10 (1 ∷ []) (
+    field (codes "temporal_id_min") (Number 3)
+    ∷ field (codes "reserved_2") (Reserved 5)
+    ∷ field (codes "temporal_id_max") (Number 3)
+    ∷ field (codes "reserved_3") (Reserved 5)
+    ∷ [])
+    ∷ []
 
 -- ETSI EN 300 468, 6.2.40: bytes that mean nothing
 abbrev pub stuffing : Page
@@ -327,6 +381,36 @@ pdc = of_fields 0x69 (codes "PDC_descriptor") (
     ∷ field (codes "minute") (Number 6)
     ∷ [])
 
+-- ETSI EN 300 468, D.3: what an AC-3 audio component is
+abbrev pub ac3 : Page
+ac3 = of_fields 0x6A (codes "AC3_descriptor") (
+    false_if_absent (codes "component_type_flag")
+    ∷ false_if_absent (codes "bsid_flag")
+    ∷ false_if_absent (codes "mainid_flag")
+    ∷ false_if_absent (codes "asvc_flag")
+    ∷ field (codes "reserved") (Zeros 4)
+    ∷ [])
+
+-- the fields of the AC3_descriptor by what its first fields say
+abbrev pub ac3_groups : List Group
+ac3_groups =
+    by_value 0 (1 ∷ []) (
+    field (codes "component_type") (Number 8)
+    ∷ [])
+    ∷ by_value 1 (1 ∷ []) (
+    field (codes "bsid") (Number 8)
+    ∷ [])
+    ∷ by_value 2 (1 ∷ []) (
+    field (codes "mainid") (Number 8)
+    ∷ [])
+    ∷ by_value 3 (1 ∷ []) (
+    field (codes "asvc") (Number 8)
+    ∷ [])
+    ∷ always (
+    field (codes "additional_info") Hex
+    ∷ [])
+    ∷ []
+
 -- ETSI EN 300 468, 6.2.2: what ancillary data an audio component has
 abbrev pub ancillary_data : Page
 ancillary_data = of_fields 0x6B (codes "ancillary_data_descriptor") (
@@ -362,6 +446,74 @@ abbrev pub default_authority : Page
 default_authority = of_fields 0x73 (codes "default_authority_descriptor") (
     field (codes "default_authority") Text
     ∷ [])
+
+-- ETSI EN 300 468, 6.2.13.3: what a DVB-S2 receiver needs beside the satellite_delivery_system_descriptor
+abbrev pub s2_satellite_delivery_system : Page
+s2_satellite_delivery_system = of_fields 0x79 (codes "S2_satellite_delivery_system_descriptor") (
+    false_if_absent (codes "scrambling_sequence_selector")
+    ∷ false_if_absent (codes "multiple_input_stream_flag")
+    ∷ field (codes "reserved") (Zeros 1)
+    ∷ false_if_absent (codes "not_timeslice_flag")
+    ∷ field (codes "reserved_2") (Reserved 2)
+    ∷ field (codes "TS_GS_mode") (Number 2)
+    ∷ [])
+
+-- the fields of the S2_satellite_delivery_system_descriptor by what its first fields say
+abbrev pub s2_satellite_delivery_system_groups : List Group
+s2_satellite_delivery_system_groups =
+    by_value 0 (1 ∷ []) (
+    field (codes "reserved_3") (Reserved 6)
+    ∷ field (codes "scrambling_sequence_index") (Number 18)
+    ∷ [])
+    ∷ by_value 1 (1 ∷ []) (
+    field (codes "input_stream_identifier") (Number 8)
+    ∷ [])
+    ∷ by_value 3 (0 ∷ []) (
+    field (codes "timeslice_number") (Number 8)
+    ∷ [])
+    ∷ []
+
+-- ETSI EN 300 468, D.5: what an enhanced AC-3 audio component is
+abbrev pub enhanced_ac3 : Page
+enhanced_ac3 = of_fields 0x7A (codes "enhanced_AC3_descriptor") (
+    false_if_absent (codes "component_type_flag")
+    ∷ false_if_absent (codes "bsid_flag")
+    ∷ false_if_absent (codes "mainid_flag")
+    ∷ false_if_absent (codes "asvc_flag")
+    ∷ field (codes "mixinfoexists") Flag
+    ∷ false_if_absent (codes "substream1_flag")
+    ∷ false_if_absent (codes "substream2_flag")
+    ∷ false_if_absent (codes "substream3_flag")
+    ∷ [])
+
+-- the fields of the enhanced_AC3_descriptor by what its first fields say
+abbrev pub enhanced_ac3_groups : List Group
+enhanced_ac3_groups =
+    by_value 0 (1 ∷ []) (
+    field (codes "component_type") (Number 8)
+    ∷ [])
+    ∷ by_value 1 (1 ∷ []) (
+    field (codes "bsid") (Number 8)
+    ∷ [])
+    ∷ by_value 2 (1 ∷ []) (
+    field (codes "mainid") (Number 8)
+    ∷ [])
+    ∷ by_value 3 (1 ∷ []) (
+    field (codes "asvc") (Number 8)
+    ∷ [])
+    ∷ by_value 5 (1 ∷ []) (
+    field (codes "substream1") (Number 8)
+    ∷ [])
+    ∷ by_value 6 (1 ∷ []) (
+    field (codes "substream2") (Number 8)
+    ∷ [])
+    ∷ by_value 7 (1 ∷ []) (
+    field (codes "substream3") (Number 8)
+    ∷ [])
+    ∷ always (
+    field (codes "additional_info") Hex
+    ∷ [])
+    ∷ []
 
 -- ETSI EN 300 468, G.2.1: how a DTS audio component is coded
 abbrev pub dts : Page

@@ -1,7 +1,62 @@
 //! The pages of descriptors that have no struct, or that JSON shows with reserved bits, in the order of their tags. Written by tools/pages from pages.txt.
 
 use ts_fields::{Field, ItemLayout, Kind, Layout};
+use ts_groups::{Condition, FieldGroup};
 use ts_pages::rows;
+
+/// How a video component is coded (ISO/IEC 13818-1, 2.6.2).
+pub static VIDEO_STREAM: Layout = Layout {
+    tag: 0x02,
+    name: "video_stream_descriptor",
+    head: &[
+        Field {
+            name: "multiple_frame_rate",
+            kind: Kind::Flag,
+            absent: None,
+            range: None,
+        },
+        Field {
+            name: "frame_rate_code",
+            kind: Kind::Number(4),
+            absent: None,
+            range: None,
+        },
+        Field {
+            name: "MPEG_1_only",
+            kind: Kind::Flag,
+            absent: Some(0),
+            range: None,
+        },
+        Field {
+            name: "constrained_parameter",
+            kind: Kind::Flag,
+            absent: None,
+            range: None,
+        },
+        Field {
+            name: "still_picture",
+            kind: Kind::Flag,
+            absent: None,
+            range: None,
+        },
+    ],
+    items: None,
+    counted: None,
+};
+
+/// The fields of the video_stream_descriptor by what its first fields say (ISO/IEC 13818-1, 2.6.2).
+pub static VIDEO_STREAM_GROUPS: &[FieldGroup] = &[FieldGroup {
+    when: Some(Condition {
+        place: 2,
+        values: &[0],
+    }),
+    rows: rows! {
+            "profile_and_level_indication" Number(8);
+            "chroma_format" Number(2);
+            "frame_rate_extension" Flag;
+            "reserved" Reserved(5);
+        },
+}];
 
 /// How an audio component is coded (ISO/IEC 13818-1, 2.6.4).
 pub static AUDIO_STREAM: Layout = Layout {
@@ -167,6 +222,126 @@ pub static MPEG2_AAC_AUDIO: Layout = Layout {
     items: None,
     counted: None,
 };
+
+/// The profile and level of an H.265 video component (ISO/IEC 13818-1, 2.6.95).
+pub static HEVC_VIDEO: Layout = Layout {
+    tag: 0x38,
+    name: "HEVC_video_descriptor",
+    head: &[
+        Field {
+            name: "profile_space",
+            kind: Kind::Number(2),
+            absent: None,
+            range: None,
+        },
+        Field {
+            name: "tier",
+            kind: Kind::Flag,
+            absent: None,
+            range: None,
+        },
+        Field {
+            name: "profile_idc",
+            kind: Kind::Number(5),
+            absent: None,
+            range: None,
+        },
+        Field {
+            name: "profile_compatibility_indication",
+            kind: Kind::Number(32),
+            absent: None,
+            range: None,
+        },
+        Field {
+            name: "progressive_source",
+            kind: Kind::Flag,
+            absent: None,
+            range: None,
+        },
+        Field {
+            name: "interlaced_source",
+            kind: Kind::Flag,
+            absent: None,
+            range: None,
+        },
+        Field {
+            name: "non_packed_constraint",
+            kind: Kind::Flag,
+            absent: None,
+            range: None,
+        },
+        Field {
+            name: "frame_only_constraint",
+            kind: Kind::Flag,
+            absent: None,
+            range: None,
+        },
+        Field {
+            name: "copied_44bits",
+            kind: Kind::Number(44),
+            absent: None,
+            range: None,
+        },
+        Field {
+            name: "level_idc",
+            kind: Kind::Number(8),
+            absent: None,
+            range: None,
+        },
+        Field {
+            name: "temporal_layer_subset_flag",
+            kind: Kind::Flag,
+            absent: Some(0),
+            range: None,
+        },
+        Field {
+            name: "HEVC_still_present",
+            kind: Kind::Flag,
+            absent: None,
+            range: None,
+        },
+        Field {
+            name: "HEVC_24hr_picture_present",
+            kind: Kind::Flag,
+            absent: None,
+            range: None,
+        },
+        Field {
+            name: "sub_pic_hrd_params_not_present",
+            kind: Kind::Flag,
+            absent: None,
+            range: None,
+        },
+        Field {
+            name: "reserved",
+            kind: Kind::Reserved(2),
+            absent: None,
+            range: None,
+        },
+        Field {
+            name: "HDR_WCG_idc",
+            kind: Kind::Number(2),
+            absent: None,
+            range: None,
+        },
+    ],
+    items: None,
+    counted: None,
+};
+
+/// The fields of the HEVC_video_descriptor by what its first fields say (ISO/IEC 13818-1, 2.6.95).
+pub static HEVC_VIDEO_GROUPS: &[FieldGroup] = &[FieldGroup {
+    when: Some(Condition {
+        place: 10,
+        values: &[1],
+    }),
+    rows: rows! {
+            "temporal_id_min" Number(3);
+            "reserved_2" Reserved(5);
+            "temporal_id_max" Number(3);
+            "reserved_3" Reserved(5);
+        },
+}];
 
 /// Bytes that mean nothing (ETSI EN 300 468, 6.2.40).
 pub static STUFFING: Layout = Layout {
@@ -537,6 +712,92 @@ pub static PDC: Layout = Layout {
     counted: None,
 };
 
+/// What an AC-3 audio component is (ETSI EN 300 468, D.3).
+pub static AC3: Layout = Layout {
+    tag: 0x6A,
+    name: "AC3_descriptor",
+    head: &[
+        Field {
+            name: "component_type_flag",
+            kind: Kind::Flag,
+            absent: Some(0),
+            range: None,
+        },
+        Field {
+            name: "bsid_flag",
+            kind: Kind::Flag,
+            absent: Some(0),
+            range: None,
+        },
+        Field {
+            name: "mainid_flag",
+            kind: Kind::Flag,
+            absent: Some(0),
+            range: None,
+        },
+        Field {
+            name: "asvc_flag",
+            kind: Kind::Flag,
+            absent: Some(0),
+            range: None,
+        },
+        Field {
+            name: "reserved",
+            kind: Kind::Zeros(4),
+            absent: None,
+            range: None,
+        },
+    ],
+    items: None,
+    counted: None,
+};
+
+/// The fields of the AC3_descriptor by what its first fields say (ETSI EN 300 468, D.3).
+pub static AC3_GROUPS: &[FieldGroup] = &[
+    FieldGroup {
+        when: Some(Condition {
+            place: 0,
+            values: &[1],
+        }),
+        rows: rows! {
+            "component_type" Number(8);
+        },
+    },
+    FieldGroup {
+        when: Some(Condition {
+            place: 1,
+            values: &[1],
+        }),
+        rows: rows! {
+            "bsid" Number(8);
+        },
+    },
+    FieldGroup {
+        when: Some(Condition {
+            place: 2,
+            values: &[1],
+        }),
+        rows: rows! {
+            "mainid" Number(8);
+        },
+    },
+    FieldGroup {
+        when: Some(Condition {
+            place: 3,
+            values: &[1],
+        }),
+        rows: rows! {
+            "asvc" Number(8);
+        },
+    },
+    FieldGroup {
+        when: None,
+        rows: rows! {
+            "additional_info" Hex;
+        },
+    },
+];
+
 /// What ancillary data an audio component has (ETSI EN 300 468, 6.2.2).
 pub static ANCILLARY_DATA: Layout = Layout {
     tag: 0x6B,
@@ -603,6 +864,215 @@ pub static DEFAULT_AUTHORITY: Layout = Layout {
     items: None,
     counted: None,
 };
+
+/// What a DVB-S2 receiver needs beside the satellite_delivery_system_descriptor (ETSI EN 300 468, 6.2.13.3).
+pub static S2_SATELLITE_DELIVERY_SYSTEM: Layout = Layout {
+    tag: 0x79,
+    name: "S2_satellite_delivery_system_descriptor",
+    head: &[
+        Field {
+            name: "scrambling_sequence_selector",
+            kind: Kind::Flag,
+            absent: Some(0),
+            range: None,
+        },
+        Field {
+            name: "multiple_input_stream_flag",
+            kind: Kind::Flag,
+            absent: Some(0),
+            range: None,
+        },
+        Field {
+            name: "reserved",
+            kind: Kind::Zeros(1),
+            absent: None,
+            range: None,
+        },
+        Field {
+            name: "not_timeslice_flag",
+            kind: Kind::Flag,
+            absent: Some(0),
+            range: None,
+        },
+        Field {
+            name: "reserved_2",
+            kind: Kind::Reserved(2),
+            absent: None,
+            range: None,
+        },
+        Field {
+            name: "TS_GS_mode",
+            kind: Kind::Number(2),
+            absent: None,
+            range: None,
+        },
+    ],
+    items: None,
+    counted: None,
+};
+
+/// The fields of the S2_satellite_delivery_system_descriptor by what its first fields say (ETSI EN 300 468, 6.2.13.3).
+pub static S2_SATELLITE_DELIVERY_SYSTEM_GROUPS: &[FieldGroup] = &[
+    FieldGroup {
+        when: Some(Condition {
+            place: 0,
+            values: &[1],
+        }),
+        rows: rows! {
+            "reserved_3" Reserved(6);
+            "scrambling_sequence_index" Number(18);
+        },
+    },
+    FieldGroup {
+        when: Some(Condition {
+            place: 1,
+            values: &[1],
+        }),
+        rows: rows! {
+            "input_stream_identifier" Number(8);
+        },
+    },
+    FieldGroup {
+        when: Some(Condition {
+            place: 3,
+            values: &[0],
+        }),
+        rows: rows! {
+            "timeslice_number" Number(8);
+        },
+    },
+];
+
+/// What an enhanced AC-3 audio component is (ETSI EN 300 468, D.5).
+pub static ENHANCED_AC3: Layout = Layout {
+    tag: 0x7A,
+    name: "enhanced_AC3_descriptor",
+    head: &[
+        Field {
+            name: "component_type_flag",
+            kind: Kind::Flag,
+            absent: Some(0),
+            range: None,
+        },
+        Field {
+            name: "bsid_flag",
+            kind: Kind::Flag,
+            absent: Some(0),
+            range: None,
+        },
+        Field {
+            name: "mainid_flag",
+            kind: Kind::Flag,
+            absent: Some(0),
+            range: None,
+        },
+        Field {
+            name: "asvc_flag",
+            kind: Kind::Flag,
+            absent: Some(0),
+            range: None,
+        },
+        Field {
+            name: "mixinfoexists",
+            kind: Kind::Flag,
+            absent: None,
+            range: None,
+        },
+        Field {
+            name: "substream1_flag",
+            kind: Kind::Flag,
+            absent: Some(0),
+            range: None,
+        },
+        Field {
+            name: "substream2_flag",
+            kind: Kind::Flag,
+            absent: Some(0),
+            range: None,
+        },
+        Field {
+            name: "substream3_flag",
+            kind: Kind::Flag,
+            absent: Some(0),
+            range: None,
+        },
+    ],
+    items: None,
+    counted: None,
+};
+
+/// The fields of the enhanced_AC3_descriptor by what its first fields say (ETSI EN 300 468, D.5).
+pub static ENHANCED_AC3_GROUPS: &[FieldGroup] = &[
+    FieldGroup {
+        when: Some(Condition {
+            place: 0,
+            values: &[1],
+        }),
+        rows: rows! {
+            "component_type" Number(8);
+        },
+    },
+    FieldGroup {
+        when: Some(Condition {
+            place: 1,
+            values: &[1],
+        }),
+        rows: rows! {
+            "bsid" Number(8);
+        },
+    },
+    FieldGroup {
+        when: Some(Condition {
+            place: 2,
+            values: &[1],
+        }),
+        rows: rows! {
+            "mainid" Number(8);
+        },
+    },
+    FieldGroup {
+        when: Some(Condition {
+            place: 3,
+            values: &[1],
+        }),
+        rows: rows! {
+            "asvc" Number(8);
+        },
+    },
+    FieldGroup {
+        when: Some(Condition {
+            place: 5,
+            values: &[1],
+        }),
+        rows: rows! {
+            "substream1" Number(8);
+        },
+    },
+    FieldGroup {
+        when: Some(Condition {
+            place: 6,
+            values: &[1],
+        }),
+        rows: rows! {
+            "substream2" Number(8);
+        },
+    },
+    FieldGroup {
+        when: Some(Condition {
+            place: 7,
+            values: &[1],
+        }),
+        rows: rows! {
+            "substream3" Number(8);
+        },
+    },
+    FieldGroup {
+        when: None,
+        rows: rows! {
+            "additional_info" Hex;
+        },
+    },
+];
 
 /// How a DTS audio component is coded (ETSI EN 300 468, G.2.1).
 pub static DTS: Layout = Layout {

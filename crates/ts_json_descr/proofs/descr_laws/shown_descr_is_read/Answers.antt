@@ -10,4 +10,5 @@ returns c = λ d small is short.
       children = c.element_shows.ensures.children;
       lengths = c.length_of_bits.ensures.bytes;
       written = c.read_is_written.ensures;
+      grouped = c.grouped_is_written.ensures;
     }) d small is short

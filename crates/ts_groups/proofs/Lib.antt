@@ -1,0 +1,5 @@
+mod StepLemmas
+mod ReadLemmas
+mod RowLemmas
+mod SoundLemmas
+mod Rows

@@ -1,0 +1,2 @@
+-- The definitions of fields that are there by the value of a field in front.
+pub mod Groups
