@@ -93,7 +93,7 @@ fewer form (suc m) (suc n) bytes few row =
     and_from (is_whole form bytes) (in_row form m (drop (unit form) bytes)) parts.0 (fewer form m n (drop (unit form) bytes) (omega arith) parts.1)
 
 -- so many in a row are so long
-row-long : (form : Form) (n : ℕ) (bytes : List ℕ) → in_row form (suc n) bytes ≡ true → n * unit form + (lead form + 188) ≤ length bytes
+pub row-long : (form : Form) (n : ℕ) (bytes : List ℕ) → in_row form (suc n) bytes ≡ true → n * unit form + (lead form + 188) ≤ length bytes
 row-long form zero bytes row =
     let has = whole-has form bytes (row-begins form 0 bytes row).0 in
     let long : lead form + 188 ≤ length bytes = has.0 in
@@ -243,3 +243,17 @@ at-stripped form left (suc n) bytes few =
     let u : ℕ = unit form in
     ap (λ (l : List ℕ). take 188 (drop (lead form) bytes) ++ l) (at-stripped form 0 n (drop u bytes) (rest-few form n bytes few))
     ∙ sym (stripped-unit form bytes ∙ ap (λ (l : List ℕ). l ++ stripped form (drop u bytes)) (take-lead (lead form) u bytes (unit-holds form)))
+
+-- one more, where it is whole
+pub one-more : (form : Form) (n : ℕ) (bytes : List ℕ) → in_row form n bytes ≡ true → is_whole form (drop (n * unit form) bytes) ≡ true → in_row form (suc n) bytes ≡ true
+unfolding in_row
+one-more form zero bytes row whole =
+    let e : 0 * unit form ≡ 0 = omega arith in
+    let here : is_whole form bytes ≡ true = ap (λ (k : ℕ). is_whole form (drop k bytes)) (sym e) ∙ whole in
+    and_from (is_whole form bytes) true here refl
+one-more form (suc n) bytes row whole =
+    let u : ℕ = unit form in
+    let parts = and_parts (is_whole form bytes) (in_row form n (drop u bytes)) row in
+    let sum : u + n * u ≡ suc n * u = omega arith in
+    let next : is_whole form (drop (n * u) (drop u bytes)) ≡ true = ap (is_whole form) (drop-drop (n * u) u bytes ∙ ap (λ (k : ℕ). drop k bytes) sum) ∙ whole in
+    and_from (is_whole form bytes) (in_row form (suc n) (drop u bytes)) parts.0 (one-more form n (drop u bytes) parts.1 next)

@@ -60,7 +60,7 @@ whole-more form bytes more long =
     ∙ ap (λ (v : ℕ). true && nat_eq v 71) c
     ∙ ap (λ (t : Bool). t && nat_eq (get_or bytes (lead form) 0) 71) (sym b)
 
-row-more : (form : Form) (n : ℕ) (bytes more : List ℕ) → n * unit form ≤ length bytes → in_row form n (bytes ++ more) ≡ in_row form n bytes
+pub row-more : (form : Form) (n : ℕ) (bytes more : List ℕ) → n * unit form ≤ length bytes → in_row form n (bytes ++ more) ≡ in_row form n bytes
 unfolding in_row
 row-more form zero bytes more long = refl
 row-more form (suc n) bytes more long =

@@ -8,8 +8,8 @@ use ts_packet::SYNC_BYTE;
 // The number of units in a row that make a beginning.
 const ROW: usize = 5;
 
-// Whether a unit with a whole packet is at the front.
-fn is_whole(form: Form, bytes: &[u8]) -> bool
+/// Whether a unit with a whole packet is at the front.
+pub(crate) fn is_whole(form: Form, bytes: &[u8]) -> bool
     ensures { result ≡ is_whole form bytes.now }
 {
     let lead = form.lead();

@@ -1,21 +1,23 @@
 -- Bytes in hand, and what comes of them.
-use Rattle.std.proofs.Common.{inl, inr, ◌≡◌, ℕ, suc, ◌+◌, ◌-◌, ◌<◌, ◌≤◌, Bool, true, false, nat_lt, if◌then◌else◌, Option, List, [], ◌∷◌, ◌++◌, length, take, drop, min, option_to_list, refl, ap, sym, ◌∙◌, arith, append_assoc, append-nil, length-append, length-drop, length-take-le, take-add}
+use Rattle.std.proofs.Common.{inl, inr, ◌≡◌, ℕ, suc, ◌+◌, ◌-◌, ◌*◌, ◌<◌, ◌≤◌, Bool, zero, true, false, nat_lt, if◌then◌else◌, Option, List, [], ◌∷◌, ◌++◌, length, take, drop, min, option_to_list, refl, ap, sym, ◌∙◌, arith, append_assoc, append-nil, length-append, length-drop, length-take-le, take-add}
 use Rattle.std.specs.List.{concat}
 use Rattle.std.proofs.lemmas.Bool.{ltb-false}
 use Rattle.std.proofs.lemmas.List.{drop-take, drop-drop, drop-append-le, take-append-le, drop_min, take_at}
 use Rattle.ts_outside.specs.Count.{count_end, raised}
 use Rattle.packet_forms.specs.declared.forms.Form.{Form}
+use Rattle.packet_forms.specs.declared.forms.Form.TheVariants.{Ts, M2ts, Rs204}
 use Rattle.packet_forms.specs.Stripped.{lead, unit}
-use Rattle.packet_search.specs.Rule.{gives}
+use Rattle.packet_search.specs.Rule.{gives, in_row}
 use Rattle.packet_search.specs.Search.{Searched, with_found, search_from, packets_in}
 use Rattle.packet_search.specs.Settled.{IsEnough}
-use Rattle.packet_search.proofs.Units.{unit-holds, gives-more, gives-whole, whole-has}
+use Rattle.packet_search.proofs.Units.{unit-holds, gives-more, gives-whole, whole-has, row-begins, row-more}
+use Rattle.packet_search.proofs.Runs.{gives-row, fewer, row-long}
 use Rattle.packet_search.proofs.Steps.{step-given}
 use Rattle.search_source.specs.declared.gap.Gap.{Gap}
 use Rattle.search_source.specs.declared.finder.Finder.{Finder}
 use Rattle.search_source.specs.Gaps.{counted, gap_before, gaps_from}
 use Rattle.search_source.specs.Coming.{Coming, ungiven, coming_of, coming_from, coming, hand_of}
-use Rattle.search_source.proofs.Counting.{counted-twice, gaps-number, same-left, coming-is, coming-same}
+use Rattle.search_source.proofs.Counting.{counted-twice, counted-more, gap-none, gaps-number, same-left, coming-is, coming-same}
 
 -- without so many at the front
 pub hand-less : (from have count : ℕ) (items : List ℕ) → count ≤ have → take (have - count) (drop (from + count) items) ≡ drop count (take have (drop from items))
@@ -172,3 +174,86 @@ min-raised n top false is =
 
 pub counted-raised : (n : ℕ) → counted (raised n) ≡ counted (suc n)
 counted-raised n = min-raised n count_end (nat_lt n count_end) refl
+
+-- ---- packets in a row, with no byte between them
+
+-- a unit is its packet alone
+plain-lead : (form : Form) → unit form ≡ 188 → lead form ≡ 0
+plain-lead Ts plain = refl
+plain-lead M2ts plain = absurd (omega arith)
+plain-lead Rs204 plain = refl
+
+-- they are all in hand, with the four units behind them
+row-size : (form : Form) (count : ℕ) (hand : List ℕ) → unit form ≡ 188 → in_row form (count + 4) hand ≡ true → (count + 4) * 188 ≤ length hand
+row-size form count hand plain row =
+    let u : ℕ = unit form in
+    let more : count + 4 ≡ suc (count + 3) = omega arith in
+    let long : (count + 3) * u + (lead form + 188) ≤ length hand = row-long form (count + 3) hand (ap (λ (k : ℕ). in_row form k hand) (sym more) ∙ row) in
+    let wide : (count + 3) * u ≡ (count + 3) * 188 = ap (λ (k : ℕ). (count + 3) * k) plain in
+    omega arith
+
+pub row-fits : (form : Form) (count : ℕ) (hand : List ℕ) → unit form ≡ 188 → in_row form (count + 4) hand ≡ true → count * 188 ≤ length hand
+row-fits form count hand plain row = omega (arith, row-size form count hand plain row)
+
+-- what comes depends on the number as it is counted alone
+coming-number : (number next : ℕ) (found : Searched) → counted number ≡ counted next → coming_of number found ≡ coming_of next found
+coming-number number next found same =
+    coming-is _ _ _ _ _ _ _ _ refl (gaps-number number next found.found same) (counted-more number next (length found.found) same) refl
+
+-- bytes that are given in two parts
+given-more : (first second : List ℕ) (rest : Coming) → ungiven first [] (ungiven second [] rest) ≡ ungiven (first ++ second) [] rest
+given-more first second rest =
+    ap (λ (l : List ℕ). let c : Coming = record { bytes = l; gaps = rest.gaps; packets = rest.packets; behind = rest.behind } in c) (sym (append_assoc first second rest.bytes))
+
+-- what comes of them
+row-comes : (form : Form) (count number next : ℕ) (bytes : List ℕ) → unit form ≡ 188 → in_row form (count + 4) bytes ≡ true → counted next ≡ counted (number + count)
+    → coming_of number (search_from form 0 true 0 bytes) ≡ ungiven (take (count * 188) bytes) [] (coming_of next (search_from form 0 true 0 (drop (count * 188) bytes)))
+row-comes form zero number next bytes plain row same =
+    let none : number + 0 ≡ number = omega arith in
+    coming-number number next (search_from form 0 true 0 bytes) (sym (same ∙ ap counted none))
+row-comes form (suc count) number next bytes plain row same =
+    let more : suc count + 4 ≡ suc (count + 4) = omega arith in
+    let all : in_row form (suc (count + 4)) bytes ≡ true = ap (λ (k : ℕ). in_row form k bytes) (sym more) ∙ row in
+    let five : in_row form 5 bytes ≡ true = fewer form 5 (suc count + 4) bytes (omega arith) row in
+    let is : gives form true bytes ≡ true = gives-row form true bytes five in
+    let has = whole-has form bytes (gives-whole form true bytes is) in
+    let long : lead form + 188 ≤ length bytes = has.0 in
+    let some : 0 < length bytes = omega arith in
+    let packet : List ℕ = take 188 bytes in
+    let rest : List ℕ = drop 188 bytes in
+    let behind : in_row form (count + 4) rest ≡ true = ap (λ (n : ℕ). in_row form (count + 4) (drop n bytes)) (sym plain) ∙ (row-begins form (count + 4) bytes all).1 in
+    let sum : suc number + count ≡ number + suc count = omega arith in
+    let size : 188 + count * 188 ≡ suc count * 188 = omega arith in
+    let later : Searched = search_from form 0 true 0 rest in
+    let end : Coming = coming_of next (search_from form 0 true 0 (drop (count * 188) rest)) in
+    ap (coming_of number)
+    (step-given form true 0 bytes some is
+    ∙ ap (λ (n : ℕ). with_found (record { left_out = 0; packet = take 188 (drop n bytes) } ∷ []) (search_from form 0 true 0 (drop (unit form) bytes))) (plain-lead form plain)
+    ∙ ap (λ (n : ℕ). with_found (record { left_out = 0; packet = packet } ∷ []) (search_from form 0 true 0 (drop n bytes))) plain)
+    ∙ begun-of number (suc number) 0 packet later refl
+    ∙ ap (λ (g : List Gap). ungiven [] g (ungiven packet [] (coming_of (suc number) later))) (gap-none number 0 refl)
+    ∙ ap (ungiven packet []) (row-comes form count (suc number) next rest plain behind (same ∙ ap counted (sym sum)))
+    ∙ given-more packet (take (count * 188) rest) end
+    ∙ ap (λ (l : List ℕ). ungiven l [] end) (sym (take-add 188 (count * 188) bytes) ∙ ap (λ (n : ℕ). take n bytes) size)
+    ∙ ap (λ (l : List ℕ). ungiven (take (suc count * 188) bytes) [] (coming_of next (search_from form 0 true 0 l))) (drop-drop (count * 188) 188 bytes ∙ ap (λ (n : ℕ). drop n bytes) size)
+
+-- they are given at once
+pub row-left : (form : Form) (due tail : ℕ) (near : Bool) (left number next count : ℕ) (hand more : List ℕ) → due ≡ 0 → tail ≡ 0 → near ≡ true → left ≡ 0
+    → unit form ≡ 188 → in_row form (count + 4) hand ≡ true → counted next ≡ counted (number + count)
+    → coming_from form due tail near left number (hand ++ more) ≡ ungiven (take (count * 188) hand) [] (coming_from form due tail near left next (drop (count * 188) hand ++ more))
+row-left form due tail near left number next count hand more none short is_near nothing plain row same =
+    let b : List ℕ = hand ++ more in
+    let n : ℕ = count * 188 in
+    let size : (count + 4) * 188 ≤ length hand = row-size form count hand plain row in
+    let fits : n ≤ length hand = omega arith in
+    let wide : (count + 4) * unit form ≡ (count + 4) * 188 = ap (λ (k : ℕ). (count + 4) * k) plain in
+    let long : in_row form (count + 4) b ≡ true = row-more form (count + 4) hand more (omega arith) ∙ row in
+    none-begun form due tail near left number b none short
+    ∙ ap (λ (k : Bool). coming_of number (search_from form 0 k left b)) is_near
+    ∙ ap (λ (k : ℕ). coming_of number (search_from form 0 true k b)) nothing
+    ∙ row-comes form count number next b plain long same
+    ∙ ap (λ (l : List ℕ). ungiven l [] (coming_of next (search_from form 0 true 0 (drop n b)))) (take-append-le n hand more fits)
+    ∙ ap (λ (l : List ℕ). ungiven (take n hand) [] (coming_of next (search_from form 0 true 0 l))) (drop-append-le n hand more fits)
+    ∙ ap (λ (k : ℕ). ungiven (take n hand) [] (coming_of next (search_from form 0 true k (drop n hand ++ more)))) (sym nothing)
+    ∙ ap (λ (k : Bool). ungiven (take n hand) [] (coming_of next (search_from form 0 k left (drop n hand ++ more)))) (sym is_near)
+    ∙ ap (ungiven (take n hand) []) (sym (none-begun form due tail near left next (drop n hand ++ more) none short))

@@ -3,7 +3,8 @@
 use Rattle.std.specs.Prelude.{ℕ, ◌≡◌, ◌+◌, Bool, true, if◌then◌else◌, List, [], ◌++◌, length, take, drop, option_to_list}
 use Rattle.std.specs.List.{concat}
 use Rattle.packet_forms.specs.declared.forms.Form.{Form}
-use Rattle.packet_search.specs.Rule.{deciding_bytes}
+use Rattle.packet_forms.specs.Stripped.{unit}
+use Rattle.packet_search.specs.Rule.{deciding_bytes, in_row}
 use Rattle.packet_search.specs.Search.{Searched, search_from, search, packets_in}
 use Rattle.search_source.specs.Gaps.{counted, gaps_from}
 use Rattle.search_source.specs.declared.gap.Gap.{Gap}
@@ -57,3 +58,17 @@ Gives old new bytes gaps ended = (more : List ℕ) → (ended ≡ true → more 
 -- how many bytes decide what is found: six units, or one at the end
 abbrev pub deciding : Form → Bool → ℕ
 deciding form ended = if ended then 1 else deciding_bytes form
+
+-- what is next is in hand at the front: no packet is begun, a unit is its packet alone and ends right before, and nothing was
+-- left out since the last packet
+pub record IsPlain (finder : Finder) : Type 0 where
+  pub none_due : finder.due ≡ 0
+  pub no_tail : finder.tail ≡ 0
+  pub is_near : finder.near ≡ true
+  pub none_left : finder.left ≡ 0
+  pub unit_is : unit finder.form ≡ 188
+
+-- so many packets are next, each the first of five whole units in a row, with no byte between them
+pub record BeginsRow (finder : Finder) (count : ℕ) : Type 0 where
+  pub plain : IsPlain finder
+  pub row : in_row finder.form (count + 4) (hand_of finder) ≡ true

@@ -5,8 +5,14 @@ ghost use Rattle.packet_search.specs.Rule.{deciding_bytes};
 use crate::gap::{Gap, noted_with};
 use crate::gap_counts::sum_with;
 use packet_forms::Form;
-use packet_search::find;
+use packet_search::{find, units_in_row};
 use ts_outside::{Failed, Source, one_more};
+
+/// The size of a packet.
+pub(crate) const PACKET_SIZE: usize = 188;
+
+/// How many units behind a packet are whole where it begins a row of five.
+const BEHIND: usize = 4;
 
 /// Bytes in hand, and the packets that are found among them. It has a room of a fixed size, and allocates nothing.
 ///
@@ -38,10 +44,10 @@ pub struct Finder {
 }
 
 impl Finder {
-    ghost use Rattle.std.specs.Prelude.{ℕ, List, Bool, [], ◌++◌, length, take, drop, true, false, None, MatchResult, option_to_list};
+    ghost use Rattle.std.specs.Prelude.{ℕ, ◌*◌, List, Bool, [], ◌++◌, length, take, drop, true, false, None, MatchResult, option_to_list};
     ghost use Rattle.packet_search.specs.Rule.{gives};
     ghost use Rattle.packet_search.specs.Settled.{IsEnough};
-    ghost use Rattle.search_source.specs.Coming.{hand_of, coming, ungiven, deciding, Gives};
+    ghost use Rattle.search_source.specs.Coming.{hand_of, coming, ungiven, deciding, BeginsRow, IsPlain, Gives};
     ghost use Rattle.search_source.specs.SearchView.{SameBut, TakesIn, FailsToTake};
 
     /// Nothing in hand, before the first byte of a file, in a room for six units of bytes at least.
@@ -185,6 +191,54 @@ impl Finder {
         self.have -= count;
         self.due -= count;
         count
+    }
+
+    // Whether the next packet is at the front, with no byte before or after it in its unit, and nothing was left out before it.
+    fn is_plain(&self) -> bool
+        ensures { result ≡ true → IsPlain self.now }
+    {
+        if self.form.unit() != PACKET_SIZE {
+            return false;
+        }
+        if self.due > 0 || self.tail > 0 {
+            return false;
+        }
+        self.near && self.left == 0
+    }
+
+    /// How many packets at the front, at most `most`, are found there whatever follows, and can be given as they stand: each is the
+    /// first of five whole units in a row, and no byte is between them. 0 says nothing.
+    pub(crate) fn row(&self, most: usize) -> usize
+        ensures few { result ≤ most }
+        ensures row { 0 < result → BeginsRow self.now result }
+        ensures in_hand { result * 188 ≤ self.now.have }
+    {
+        if !self.is_plain() {
+            return 0;
+        }
+        let end = self.from + self.have;
+        let units = units_in_row(
+            self.form,
+            &self.room[self.from..end],
+            most.saturating_add(BEHIND),
+        );
+        units.saturating_sub(BEHIND)
+    }
+
+    /// Gives so many packets at the front at once.
+    pub(crate) fn give_row(&mut self, into: &mut [u8], count: usize)
+        requires row { BeginsRow self.old count }
+        requires in_hand { count * 188 ≤ self.old.have }
+        requires fits { count * 188 ≤ length into.old }
+        ensures given { (more : List ℕ) → coming self.old more ≡ ungiven (take (count * 188) into.new) [] (coming self.new more) }
+        ensures same { self.new.form ≡ self.old.form }
+    {
+        let bytes = count * PACKET_SIZE;
+        let end = self.from + bytes;
+        into[..bytes].copy_from_slice(&self.room[self.from..end]);
+        self.from += bytes;
+        self.have -= bytes;
+        self.number = sum_with(self.number, count);
     }
 
     /// Forgets the gap that was noted last.

@@ -11,7 +11,7 @@ ghost use Rattle.ts_outside.specs.Told.{before, told_length};
 ghost use Rattle.std.proofs.Props.{props};
 
 use crate::Gap;
-use crate::finder::Finder;
+use crate::finder::{Finder, PACKET_SIZE};
 use packet_forms::Form;
 use std::snapshot::Snapshot;
 use ts_outside::{Failed, Source};
@@ -115,7 +115,8 @@ impl<S: Source> SearchSource<S> {
         self.finder.left
     }
 
-    // Begins the next packet unless one is begun, and gives bytes of it; 0 where none may be begun.
+    // Gives the packets in a row at the front at once; else begins the next packet unless one is begun, and gives bytes of it; 0
+    // where none may be begun.
     fn give_next(&mut self, into: &mut [u8], may_note: bool) -> usize
         requires some { 0 < length into.old }
         requires noted { may_note ≡ true → self.old.finder.noted ≡ None }
@@ -128,6 +129,11 @@ impl<S: Source> SearchSource<S> {
         ensures source { self.new.source ≡ self.old.source }
         ensures ended { self.new.ended ≡ self.old.ended }
     {
+        let packets = self.finder.row(into.len() / PACKET_SIZE);
+        if packets > 0 {
+            self.finder.give_row(into, packets);
+            return packets * PACKET_SIZE;
+        }
         if !self.finder.begin(self.ended, may_note) {
             return 0;
         }
