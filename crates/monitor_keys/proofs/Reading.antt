@@ -1,16 +1,17 @@
 -- Lemmas on where the last PCR that was read stands.
-use Rattle.std.proofs.Common.{◌≡◌, ℕ, ◌+◌, ◌≤◌, List, [], ◌∷◌, length, Bool, true, false, ◌==◌, if◌then◌else◌, Option, None, Some, sym, ◌∙◌, refl, zero-le, arith}
+use Rattle.std.proofs.Common.{◌≡◌, ℕ, ◌+◌, ◌≤◌, List, [], ◌∷◌, length, ap, Bool, true, false, ◌==◌, if◌then◌else◌, Option, None, Some, sym, ◌∙◌, refl, zero-le, arith}
 use Rattle.std.proofs.lemmas.Bool.{false≢true}
 use Rattle.std.proofs.lemmas.Bool.Decides.{nat_tests}
 use Rattle.ts_packet.specs.declared.cell.Cell.{Cell}
 use Rattle.ts_packet.specs.Cells.{Live, Dropped}
-use Rattle.ts_packet.specs.Header.{pid_of}
+use Rattle.ts_packet.specs.Header.{error_indicator_of, pid_of}
 use Rattle.ts_packet.specs.MetRows.{met_from}
+use Rattle.ts_packet.specs.Pcr.{pcr_of}
 use Rattle.plug_clock.specs.StreamClock.{clock_after, clock_met, clock_read, clock_start, clock_through, clock_with, reads, time_in}
 use Rattle.plug_clock.specs.declared.last_clock.LastClock.{LastClock}
 use Rattle.plug_clock.specs.declared.stream_clock.StreamClock.{StreamClock}
-use Rattle.monitor_keys.specs.Keys.{KeyRule, behind, open_from}
-use Rattle.monitor_keys.specs.Looks.{is_read_at}
+use Rattle.monitor_keys.specs.Keys.{KeyRule, behind, open_from, span_on}
+use Rattle.monitor_keys.specs.Looks.{is_look, is_read_at}
 
 -- a number is itself
 same_number : (n : ℕ) → (n == n) ≡ true
@@ -71,3 +72,18 @@ open-most rule last n begun le = grind (arith, nat_tests, begun, le)
 
 pub open-from : (rule : KeyRule) (last : Option LastClock) → rule.from ≤ open_from rule last
 open-from rule last = grind (arith, nat_tests)
+
+-- a packet with a transport_error_indicator has no PCR that is read
+errored-same : (clock : StreamClock) (at : ℕ) (packet : List ℕ) → error_indicator_of packet ≡ true → clock_met clock at packet ≡ clock
+unfolding clock_met
+errored-same clock at packet errored = ap (λ (b : Bool). clock_with clock at packet (if b then None else pcr_of packet)) errored
+
+not-read : (at : ℕ) (last : Option LastClock) → behind last ≤ at → is_read_at at last ≡ false
+not-read at None le = refl
+not-read at (Some last) le = grind (arith, nat_tests, le)
+
+pub errored-no_look : (pid : Option ℕ) (history : List Cell) (packet : List ℕ) → error_indicator_of packet ≡ true
+    → is_look (span_on pid history packet) ≡ false
+errored-no_look pid history packet errored =
+    ap (λ (clock : StreamClock). is_read_at (length history) clock.last) (errored-same (clock_after pid history) (length history) packet errored)
+    ∙ not-read (length history) (clock_after pid history).last (after-behind pid history)

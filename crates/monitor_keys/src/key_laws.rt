@@ -2,6 +2,7 @@
 ghost use Rattle.std.specs.Prelude.{◌≡◌, ◌≤◌, ◌++◌, ◌∷◌, [], ℕ, List, Bool, Option, None, Some, true, false, length};
 ghost use Rattle.ts_packet.specs.declared.cell.Cell.{Cell};
 ghost use Rattle.ts_packet.specs.Cells.{Dropped, Live};
+ghost use Rattle.ts_packet.specs.Header.{error_indicator_of};
 ghost use Rattle.plug_clock.specs.LineClock.{line_time};
 ghost use Rattle.plug_clock.specs.StreamClock.{clock_after};
 ghost use Rattle.monitor_keys.specs.declared.key.Key.{Key as Kept};
@@ -35,6 +36,22 @@ pub fn a_packet_without_news_leaves_the_key()
         → IsNamedKey rule named kept (history ++ Live packet labels ∷ []) }
     ensures tells { (rule : KeyRule) (history : List Cell) (packet : List ℕ)
         → is_look (span_on rule.pcr_pid history packet) ≡ false → gap_on rule history packet ≡ None }
+{}
+
+/// A law; it runs nothing. A packet with a transport_error_indicator has no PCR that is read. So, where a key does not occur on it
+/// either, it is for the key as though it was dropped.
+pub fn an_errored_packet_leaves_the_key()
+    ensures unread { (pid : Option ℕ) (history : List Cell) (packet : List ℕ) → error_indicator_of packet ≡ true
+        → is_look (span_on pid history packet) ≡ false }
+    ensures stands { (rule : KeyRule) (key : Kept) (history : List Cell) (packet : List ℕ) (labels : ℕ) → IsKey rule key history
+        → error_indicator_of packet ≡ true → rule.occurs history packet ≡ false
+        → IsKey rule key (history ++ Live packet labels ∷ []) }
+    ensures named { (rule : KeyRule) (named : List Cell → Bool) (kept : KeptWhileNamed) (history : List Cell) (packet : List ℕ)
+        (labels : ℕ) → IsNamedKey rule named kept history → named (history ++ Live packet labels ∷ []) ≡ named history
+        → error_indicator_of packet ≡ true → rule.occurs history packet ≡ false
+        → IsNamedKey rule named kept (history ++ Live packet labels ∷ []) }
+    ensures tells { (rule : KeyRule) (history : List Cell) (packet : List ℕ) → error_indicator_of packet ≡ true
+        → gap_on rule history packet ≡ None }
 {}
 
 /// A law; it runs nothing. The beginning of a key that tables name is one position.

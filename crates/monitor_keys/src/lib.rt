@@ -15,7 +15,7 @@ pub use gap::Gap;
 pub use key::Key;
 pub use key_laws::{
     a_dropped_cell_leaves_the_key, a_key_has_one_beginning, a_packet_without_news_leaves_the_key,
-    times_are_those_of_the_line_clock,
+    an_errored_packet_leaves_the_key, times_are_those_of_the_line_clock,
 };
 pub use key_limit::KeyLimit;
 pub use named_key::NamedKey;

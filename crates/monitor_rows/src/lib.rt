@@ -11,4 +11,6 @@ mod row_laws;
 pub use key_row::KeyRow;
 pub use row_gap::RowGap;
 pub use row_key::RowKey;
-pub use row_laws::{a_dropped_cell_leaves_the_row, names_that_stay_leave_the_row};
+pub use row_laws::{
+    a_dropped_cell_leaves_the_row, an_errored_packet_leaves_the_row, names_that_stay_leave_the_row,
+};

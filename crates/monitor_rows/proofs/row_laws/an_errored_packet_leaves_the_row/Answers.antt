@@ -1,0 +1,13 @@
+use Rattle.std.proofs.Common.{sym}
+use Rattle.monitor_keys.proofs.Reading.{errored-no_look}
+use Rattle.monitor_rows.proofs.Rowing.{names_stay, quiet_row, quiet_told}
+use Rattle.monitor_rows.proofs.row_laws.an_errored_packet_leaves_the_row.Goals as goal
+
+pub returns-clause-stands : goal.returns-clause-stands
+returns-clause-stands c = λ rule row history packet labels has errored same occurring.
+    quiet_row rule history packet labels row (names_stay rule row history packet labels has same)
+    (errored-no_look rule.pcr_pid history packet errored) (λ i d within. sym (occurring _))
+
+pub returns-clause-tells : goal.returns-clause-tells
+returns-clause-tells c = λ rule history packet errored.
+    sym (quiet_told rule history packet (errored-no_look rule.pcr_pid history packet errored))
