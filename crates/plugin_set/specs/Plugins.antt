@@ -20,6 +20,7 @@ use Rattle.plug_edit.specs.PmtEntry.{pmt_entry}
 use Rattle.plug_edit.specs.SdtEntry.{sdt_entry}
 use Rattle.plug_edit.specs.NitEntry.{nit_entry}
 use Rattle.plug_time.specs.TimeEntry.{time_entry}
+use Rattle.plug_eit.specs.EitEntry.{eit_entry}
 use Rattle.plug_service.specs.ZapEntry.{zap_entry}
 use Rattle.plug_service.specs.SvremoveEntry.{svremove_entry}
 use Rattle.plug_analyze.specs.AnalyzeEntry.{analyze_entry}
@@ -32,7 +33,7 @@ use Rattle.plug_times.specs.TimestampsEntry.{timestamps_entry}
 use Rattle.plug_rate.specs.RateEntry.{rate_entry}
 use Rattle.plug_restuff.specs.RestuffEntry.{restuff_entry}
 use Rattle.plugin_set.specs.declared.plugin_conf.PluginConf.{PluginConf}
-use Rattle.plugin_set.specs.declared.plugin_conf.PluginConf.TheVariants.{Filter, Skip, Slice, Pattern, Until, Count, Continuity, Remap, Inject, Pat, Cat, Pmt, Sdt, Nit, Time, Zap, Svremove, Analyze, Info, Tables, Compact, Rmorphan, Pcrverify, Timestamps, Rate, Restuff}
+use Rattle.plugin_set.specs.declared.plugin_conf.PluginConf.TheVariants.{Filter, Skip, Slice, Pattern, Until, Count, Continuity, Remap, Inject, Pat, Cat, Pmt, Sdt, Nit, Time, Eit, Zap, Svremove, Analyze, Info, Tables, Compact, Rmorphan, Pcrverify, Timestamps, Rate, Restuff}
 use Rattle.plugin_set.specs.declared.plugin_conf.PluginKind.{PluginKind}
 use Rattle.plugin_set.specs.declared.plugin_conf.PluginKind.TheVariants as kind
 
@@ -53,6 +54,7 @@ kinds = kind.Filter
     ∷ kind.Sdt
     ∷ kind.Nit
     ∷ kind.Time
+    ∷ kind.Eit
     ∷ kind.Zap
     ∷ kind.Svremove
     ∷ kind.Analyze
@@ -83,6 +85,7 @@ kind_entry kind.Pmt = of_kind Pmt pmt_entry
 kind_entry kind.Sdt = of_kind Sdt sdt_entry
 kind_entry kind.Nit = of_kind Nit nit_entry
 kind_entry kind.Time = of_kind Time time_entry
+kind_entry kind.Eit = of_kind Eit eit_entry
 kind_entry kind.Zap = of_kind Zap zap_entry
 kind_entry kind.Svremove = of_kind Svremove svremove_entry
 kind_entry kind.Analyze = of_kind Analyze analyze_entry
@@ -112,6 +115,7 @@ entry_of (Pmt conf) = of_conf kind.Pmt pmt_entry conf
 entry_of (Sdt conf) = of_conf kind.Sdt sdt_entry conf
 entry_of (Nit conf) = of_conf kind.Nit nit_entry conf
 entry_of (Time conf) = of_conf kind.Time time_entry conf
+entry_of (Eit conf) = of_conf kind.Eit eit_entry conf
 entry_of (Zap conf) = of_conf kind.Zap zap_entry conf
 entry_of (Svremove conf) = of_conf kind.Svremove svremove_entry conf
 entry_of (Analyze conf) = of_conf kind.Analyze analyze_entry conf

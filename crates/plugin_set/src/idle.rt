@@ -1,6 +1,7 @@
 //! Why a plugin was idle: it edited, inserted or read nothing.
 
 use crate::some_plugin::SomePlugin;
+use plug_eit::Eit;
 use plug_inject::Inject;
 use plug_move::Remap;
 use plug_psi::Unedited;
@@ -23,6 +24,8 @@ pub enum Idle {
     NoTables,
     /// No time came that could be moved.
     NoTime,
+    /// No section came that is changed or removed.
+    NoSection,
 }
 
 /// Why a plugin was idle; `None` where it was not, or where it edits nothing in any case.
@@ -39,6 +42,7 @@ pub(crate) fn why_idle(plugin: &SomePlugin) -> Result<Option<Idle>, AllocError> 
         SomePlugin::Inject(plugin) => Ok(idle_inject(plugin)),
         SomePlugin::Tables(plugin) => Ok(idle_tables(plugin)),
         SomePlugin::Time(plugin) => Ok(idle_time(plugin)),
+        SomePlugin::Eit(plugin) => Ok(idle_eit(plugin)),
         _ => Ok(None),
     }
 }
@@ -76,4 +80,11 @@ fn idle_time(plugin: &Time) -> Option<Idle> {
         return None;
     }
     Some(Idle::NoTime)
+}
+
+fn idle_eit(plugin: &Eit) -> Option<Idle> {
+    if plugin.steps.has_come() {
+        return None;
+    }
+    Some(Idle::NoSection)
 }

@@ -6,6 +6,7 @@ ghost use Rattle.plugin_set.specs.Plugins.{IsValid, has_summary, kind_of, name_o
 
 use plug_analyze::AnalyzeConf;
 use plug_edit::{EditCatConf, EditNitConf, EditPatConf, EditPmtConf, EditSdtConf};
+use plug_eit::EitConf;
 use plug_end::UntilConf;
 use plug_info::InfoConf;
 use plug_inject::InjectConf;
@@ -42,6 +43,7 @@ pub enum PluginConf {
     Sdt(EditSdtConf),
     Nit(EditNitConf),
     Time(TimeConf),
+    Eit(EitConf),
     Zap(ZapConf),
     Svremove(SvremoveConf),
     Analyze(AnalyzeConf),
@@ -73,6 +75,7 @@ pub enum PluginKind {
     Sdt,
     Nit,
     Time,
+    Eit,
     Zap,
     Svremove,
     Analyze,
@@ -87,7 +90,7 @@ pub enum PluginKind {
 }
 
 /// All kinds, in the order in which help names them.
-pub(crate) static KINDS: [PluginKind; 26] = [
+pub(crate) static KINDS: [PluginKind; 27] = [
     PluginKind::Filter,
     PluginKind::Skip,
     PluginKind::Slice,
@@ -103,6 +106,7 @@ pub(crate) static KINDS: [PluginKind; 26] = [
     PluginKind::Sdt,
     PluginKind::Nit,
     PluginKind::Time,
+    PluginKind::Eit,
     PluginKind::Zap,
     PluginKind::Svremove,
     PluginKind::Analyze,
@@ -135,6 +139,7 @@ macro_rules! of_kind {
             PluginKind::Sdt => <EditSdtConf as PluginSettings>::$name($($given),*),
             PluginKind::Nit => <EditNitConf as PluginSettings>::$name($($given),*),
             PluginKind::Time => <TimeConf as PluginSettings>::$name($($given),*),
+            PluginKind::Eit => <EitConf as PluginSettings>::$name($($given),*),
             PluginKind::Zap => <ZapConf as PluginSettings>::$name($($given),*),
             PluginKind::Svremove => <SvremoveConf as PluginSettings>::$name($($given),*),
             PluginKind::Analyze => <AnalyzeConf as PluginSettings>::$name($($given),*),
@@ -169,6 +174,7 @@ macro_rules! read_kind {
             PluginKind::Sdt => <EditSdtConf as PluginSettings>::read($alloc, $found).map(PluginConf::Sdt),
             PluginKind::Nit => <EditNitConf as PluginSettings>::read($alloc, $found).map(PluginConf::Nit),
             PluginKind::Time => <TimeConf as PluginSettings>::read($alloc, $found).map(PluginConf::Time),
+            PluginKind::Eit => <EitConf as PluginSettings>::read($alloc, $found).map(PluginConf::Eit),
             PluginKind::Zap => <ZapConf as PluginSettings>::read($alloc, $found).map(PluginConf::Zap),
             PluginKind::Svremove => <SvremoveConf as PluginSettings>::read($alloc, $found).map(PluginConf::Svremove),
             PluginKind::Analyze => <AnalyzeConf as PluginSettings>::read($alloc, $found).map(PluginConf::Analyze),
@@ -203,6 +209,7 @@ macro_rules! each_conf {
             PluginConf::Sdt($conf) => $does,
             PluginConf::Nit($conf) => $does,
             PluginConf::Time($conf) => $does,
+            PluginConf::Eit($conf) => $does,
             PluginConf::Zap($conf) => $does,
             PluginConf::Svremove($conf) => $does,
             PluginConf::Analyze($conf) => $does,
@@ -253,6 +260,7 @@ impl PluginKind {
             PluginKind::Sdt => false,
             PluginKind::Nit => false,
             PluginKind::Time => false,
+            PluginKind::Eit => false,
             PluginKind::Zap => false,
             PluginKind::Svremove => false,
             PluginKind::Analyze => true,
@@ -306,6 +314,7 @@ impl PluginConf {
             PluginConf::Sdt(_) => PluginKind::Sdt,
             PluginConf::Nit(_) => PluginKind::Nit,
             PluginConf::Time(_) => PluginKind::Time,
+            PluginConf::Eit(_) => PluginKind::Eit,
             PluginConf::Zap(_) => PluginKind::Zap,
             PluginConf::Svremove(_) => PluginKind::Svremove,
             PluginConf::Analyze(_) => PluginKind::Analyze,

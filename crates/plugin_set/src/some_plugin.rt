@@ -9,6 +9,7 @@ use plug_edit::{
     EditCat, EditNit, EditPat, EditPmt, EditSdt, new_edit_cat, new_edit_nit, new_edit_pat,
     new_edit_pmt, new_edit_sdt,
 };
+use plug_eit::{Eit, new_eit};
 use plug_end::Until;
 use plug_info::Info;
 use plug_inject::{Inject, new_inject};
@@ -46,6 +47,7 @@ pub(crate) enum SomePlugin {
     Sdt(EditSdt),
     Nit(EditNit),
     Time(Time),
+    Eit(Eit),
     Zap(Zap),
     Svremove(Svremove),
     Analyze(Analyze),
@@ -78,6 +80,7 @@ macro_rules! each_plugin {
             SomePlugin::Sdt($plugin) => $does,
             SomePlugin::Nit($plugin) => $does,
             SomePlugin::Time($plugin) => $does,
+            SomePlugin::Eit($plugin) => $does,
             SomePlugin::Zap($plugin) => $does,
             SomePlugin::Svremove($plugin) => $does,
             SomePlugin::Analyze($plugin) => $does,
@@ -122,7 +125,8 @@ macro_rules! made_of {
             PluginConf::Sdt(conf) => made!(new_edit_sdt($alloc,conf,$buffer), SomePlugin::Sdt),
             PluginConf::Nit(conf) => made!(new_edit_nit($alloc,conf,$buffer), SomePlugin::Nit),
             PluginConf::Time(conf) => made!(new_time($alloc,conf,$buffer), SomePlugin::Time),
-            PluginConf::Zap(conf) => made!(new_zap($alloc,&conf.service,$buffer), SomePlugin::Zap),
+            PluginConf::Eit(conf) => made!(new_eit($alloc,conf,$buffer), SomePlugin::Eit),
+            PluginConf::Zap(conf) => made!(new_zap($alloc,conf,$buffer), SomePlugin::Zap),
             PluginConf::Svremove(conf) => made!(new_svremove($alloc,&conf.service,$buffer), SomePlugin::Svremove),
             PluginConf::Analyze(conf) => made!(Analyze::new($alloc,conf,$buffer), SomePlugin::Analyze),
             PluginConf::Info(conf) => made!(Info::new($alloc,conf,$buffer), SomePlugin::Info),
@@ -161,7 +165,7 @@ impl SomePlugin {
 
 impl Plugin for SomePlugin {
     ghost use Rattle.std.specs.Prelude.{refl};
-    ghost use Rattle.plugin_set.specs.declared.some_plugin.SomePlugin.TheVariants.{Filter as MadeFilter, Skip as MadeSkip, Slice as MadeSlice, Pattern as MadePattern, Until as MadeUntil, Count as MadeCount, Continuity as MadeContinuity, Remap as MadeRemap, Inject as MadeInject, Pat as MadePat, Cat as MadeCat, Pmt as MadePmt, Sdt as MadeSdt, Nit as MadeNit, Time as MadeTime, Zap as MadeZap, Svremove as MadeSvremove, Analyze as MadeAnalyze, Info as MadeInfo, Tables as MadeTables, Compact as MadeCompact, Rmorphan as MadeRmorphan, Pcrverify as MadePcrverify, Timestamps as MadeTimestamps, Rate as MadeRate, Restuff as MadeRestuff};
+    ghost use Rattle.plugin_set.specs.declared.some_plugin.SomePlugin.TheVariants.{Filter as MadeFilter, Skip as MadeSkip, Slice as MadeSlice, Pattern as MadePattern, Until as MadeUntil, Count as MadeCount, Continuity as MadeContinuity, Remap as MadeRemap, Inject as MadeInject, Pat as MadePat, Cat as MadeCat, Pmt as MadePmt, Sdt as MadeSdt, Nit as MadeNit, Time as MadeTime, Eit as MadeEit, Zap as MadeZap, Svremove as MadeSvremove, Analyze as MadeAnalyze, Info as MadeInfo, Tables as MadeTables, Compact as MadeCompact, Rmorphan as MadeRmorphan, Pcrverify as MadePcrverify, Timestamps as MadeTimestamps, Rate as MadeRate, Restuff as MadeRestuff};
 
     ghost rule = { elim [
       | MadeFilter p ↦ ⟦<Filter as Plugin>⟧.rule p
@@ -179,6 +183,7 @@ impl Plugin for SomePlugin {
       | MadeSdt p ↦ ⟦<EditSdt as Plugin>⟧.rule p
       | MadeNit p ↦ ⟦<EditNit as Plugin>⟧.rule p
       | MadeTime p ↦ ⟦<Time as Plugin>⟧.rule p
+      | MadeEit p ↦ ⟦<Eit as Plugin>⟧.rule p
       | MadeZap p ↦ ⟦<Zap as Plugin>⟧.rule p
       | MadeSvremove p ↦ ⟦<Svremove as Plugin>⟧.rule p
       | MadeAnalyze p ↦ ⟦<Analyze as Plugin>⟧.rule p
@@ -208,6 +213,7 @@ impl Plugin for SomePlugin {
       | MadeSdt p ↦ ⟦<EditSdt as Plugin>⟧.stands_for p
       | MadeNit p ↦ ⟦<EditNit as Plugin>⟧.stands_for p
       | MadeTime p ↦ ⟦<Time as Plugin>⟧.stands_for p
+      | MadeEit p ↦ ⟦<Eit as Plugin>⟧.stands_for p
       | MadeZap p ↦ ⟦<Zap as Plugin>⟧.stands_for p
       | MadeSvremove p ↦ ⟦<Svremove as Plugin>⟧.stands_for p
       | MadeAnalyze p ↦ ⟦<Analyze as Plugin>⟧.stands_for p
@@ -237,6 +243,7 @@ impl Plugin for SomePlugin {
       | MadeSdt p ↦ ⟦<EditSdt as Plugin>⟧.preallocated p
       | MadeNit p ↦ ⟦<EditNit as Plugin>⟧.preallocated p
       | MadeTime p ↦ ⟦<Time as Plugin>⟧.preallocated p
+      | MadeEit p ↦ ⟦<Eit as Plugin>⟧.preallocated p
       | MadeZap p ↦ ⟦<Zap as Plugin>⟧.preallocated p
       | MadeSvremove p ↦ ⟦<Svremove as Plugin>⟧.preallocated p
       | MadeAnalyze p ↦ ⟦<Analyze as Plugin>⟧.preallocated p
@@ -266,6 +273,7 @@ impl Plugin for SomePlugin {
       | MadeSdt p ↦ ⟦<EditSdt as Plugin>⟧.silent p
       | MadeNit p ↦ ⟦<EditNit as Plugin>⟧.silent p
       | MadeTime p ↦ ⟦<Time as Plugin>⟧.silent p
+      | MadeEit p ↦ ⟦<Eit as Plugin>⟧.silent p
       | MadeZap p ↦ ⟦<Zap as Plugin>⟧.silent p
       | MadeSvremove p ↦ ⟦<Svremove as Plugin>⟧.silent p
       | MadeAnalyze p ↦ ⟦<Analyze as Plugin>⟧.silent p
@@ -323,6 +331,7 @@ impl Plugin for SomePlugin {
       | MadeSdt p ↦ λ history mark stands. refl
       | MadeNit p ↦ λ history mark stands. refl
       | MadeTime p ↦ λ history mark stands. refl
+      | MadeEit p ↦ λ history mark stands. refl
       | MadeZap p ↦ λ history mark stands. refl
       | MadeSvremove p ↦ λ history mark stands. refl
       | MadeAnalyze p ↦ λ history mark stands. refl

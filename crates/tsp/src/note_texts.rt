@@ -34,6 +34,7 @@ fn why_text(alloc: Global, why: Idle) -> Result<String, AllocError> {
         Idle::NoTime => format!(in alloc;
             "no TDT and no TOT with a right CRC came whole in a packet"
         ),
+        Idle::NoSection => format!(in alloc; "no EIT section came that it changes or removes"),
     }
 }
 

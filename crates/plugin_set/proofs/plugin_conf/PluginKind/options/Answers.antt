@@ -46,6 +46,9 @@ returns-in-Nit c = rw c.in-Nit.is c.options-in-Nit.ensures
 pub returns-in-Time : goal.returns-in-Time
 returns-in-Time c = rw c.in-Time.is c.options-in-Time.ensures
 
+pub returns-in-Eit : goal.returns-in-Eit
+returns-in-Eit c = rw c.in-Eit.is c.options-in-Eit.ensures
+
 pub returns-in-Zap : goal.returns-in-Zap
 returns-in-Zap c = rw c.in-Zap.is c.options-in-Zap.ensures
 

@@ -14,6 +14,7 @@ use Rattle.plug_edit.specs.PmtEntry.{pmt_entry}
 use Rattle.plug_edit.specs.SdtEntry.{sdt_entry}
 use Rattle.plug_edit.specs.NitEntry.{nit_entry}
 use Rattle.plug_time.specs.TimeEntry.{time_entry}
+use Rattle.plug_eit.specs.EitEntry.{eit_entry}
 use Rattle.plug_service.specs.ZapEntry.{zap_entry}
 use Rattle.plug_service.specs.SvremoveEntry.{svremove_entry}
 use Rattle.plug_analyze.specs.AnalyzeEntry.{analyze_entry}
@@ -119,6 +120,12 @@ returns-in-Time-clause-reads c = rw c.in-Time.is (read_into conf.Time time_entry
 
 pub returns-in-Time-clause-valid : goal.returns-in-Time-clause-valid
 returns-in-Time-clause-valid c = made conf.Time _ IsValid _ _ c.map-in-Time.ensures.cases (λ _ p. p) c.read-in-Time.ensures.valid
+
+pub returns-in-Eit-clause-reads : goal.returns-in-Eit-clause-reads
+returns-in-Eit-clause-reads c = rw c.in-Eit.is (read_into conf.Eit eit_entry.options c.args.found.now _ _ c.map-in-Eit.ensures.cases c.read-in-Eit.ensures.reads)
+
+pub returns-in-Eit-clause-valid : goal.returns-in-Eit-clause-valid
+returns-in-Eit-clause-valid c = made conf.Eit _ IsValid _ _ c.map-in-Eit.ensures.cases (λ _ p. p) c.read-in-Eit.ensures.valid
 
 pub returns-in-Zap-clause-reads : goal.returns-in-Zap-clause-reads
 returns-in-Zap-clause-reads c = rw c.in-Zap.is (read_into conf.Zap zap_entry.options c.args.found.now _ _ c.map-in-Zap.ensures.cases c.read-in-Zap.ensures.reads)

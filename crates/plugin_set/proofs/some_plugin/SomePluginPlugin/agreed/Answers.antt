@@ -91,6 +91,12 @@ agreed-requires-in-Time c = rw c.in-Time.is at c.requires
 pub returns-in-Time : goal.returns-in-Time
 returns-in-Time c = rw c.in-Time.is c.agreed-in-Time.ensures
 
+pub agreed-requires-in-Eit : goal.agreed-requires-in-Eit
+agreed-requires-in-Eit c = rw c.in-Eit.is at c.requires
+
+pub returns-in-Eit : goal.returns-in-Eit
+returns-in-Eit c = rw c.in-Eit.is c.agreed-in-Eit.ensures
+
 pub agreed-requires-in-Zap : goal.agreed-requires-in-Zap
 agreed-requires-in-Zap c = rw c.in-Zap.is at c.requires
 

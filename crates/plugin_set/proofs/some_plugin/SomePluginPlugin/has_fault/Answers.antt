@@ -91,6 +91,12 @@ has_fault-requires-in-Time c = rw c.in-Time.is at c.requires
 pub returns-in-Time : goal.returns-in-Time
 returns-in-Time c = rw c.in-Time.is c.has_fault-in-Time.ensures
 
+pub has_fault-requires-in-Eit : goal.has_fault-requires-in-Eit
+has_fault-requires-in-Eit c = rw c.in-Eit.is at c.requires
+
+pub returns-in-Eit : goal.returns-in-Eit
+returns-in-Eit c = rw c.in-Eit.is c.has_fault-in-Eit.ensures
+
 pub has_fault-requires-in-Zap : goal.has_fault-requires-in-Zap
 has_fault-requires-in-Zap c = rw c.in-Zap.is at c.requires
 

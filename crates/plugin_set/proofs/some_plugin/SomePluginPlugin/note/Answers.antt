@@ -107,6 +107,12 @@ note-requires-in-Time c = rw c.in-Time.is at c.requires
 pub returns-in-Time : goal.returns-in-Time
 returns-in-Time c = rw c.in-Time.is c.note-in-Time.ensures
 
+pub note-requires-in-Eit : goal.note-requires-in-Eit
+note-requires-in-Eit c = rw c.in-Eit.is at c.requires
+
+pub returns-in-Eit : goal.returns-in-Eit
+returns-in-Eit c = rw c.in-Eit.is c.note-in-Eit.ensures
+
 pub note-requires-in-Zap : goal.note-requires-in-Zap
 note-requires-in-Zap c = rw c.in-Zap.is at c.requires
 

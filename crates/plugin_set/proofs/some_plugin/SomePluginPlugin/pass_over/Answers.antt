@@ -92,6 +92,12 @@ pass_over-requires-in-Time c = rw c.in-Time.is at c.requires
 pub returns-in-Time : goal.returns-in-Time
 returns-in-Time c = rw c.in-Time.is c.pass_over-in-Time.ensures
 
+pub pass_over-requires-in-Eit : goal.pass_over-requires-in-Eit
+pass_over-requires-in-Eit c = rw c.in-Eit.is at c.requires
+
+pub returns-in-Eit : goal.returns-in-Eit
+returns-in-Eit c = rw c.in-Eit.is c.pass_over-in-Eit.ensures
+
 pub pass_over-requires-in-Zap : goal.pass_over-requires-in-Zap
 pass_over-requires-in-Zap c = rw c.in-Zap.is at c.requires
 

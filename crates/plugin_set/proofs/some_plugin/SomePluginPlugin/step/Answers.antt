@@ -106,6 +106,12 @@ step-requires-in-Time c = rw c.in-Time.is at c.requires
 pub returns-in-Time : goal.returns-in-Time
 returns-in-Time c = rw c.in-Time.is c.step-in-Time.ensures
 
+pub step-requires-in-Eit : goal.step-requires-in-Eit
+step-requires-in-Eit c = rw c.in-Eit.is at c.requires
+
+pub returns-in-Eit : goal.returns-in-Eit
+returns-in-Eit c = rw c.in-Eit.is c.step-in-Eit.ensures
+
 pub step-requires-in-Zap : goal.step-requires-in-Zap
 step-requires-in-Zap c = rw c.in-Zap.is at c.requires
 

@@ -91,6 +91,12 @@ steps-requires-in-Time c = rw c.in-Time.is at c.requires
 pub returns-in-Time : goal.returns-in-Time
 returns-in-Time c = rw c.in-Time.is c.steps-in-Time.ensures
 
+pub steps-requires-in-Eit : goal.steps-requires-in-Eit
+steps-requires-in-Eit c = rw c.in-Eit.is at c.requires
+
+pub returns-in-Eit : goal.returns-in-Eit
+returns-in-Eit c = rw c.in-Eit.is c.steps-in-Eit.ensures
+
 pub steps-requires-in-Zap : goal.steps-requires-in-Zap
 steps-requires-in-Zap c = rw c.in-Zap.is at c.requires
 

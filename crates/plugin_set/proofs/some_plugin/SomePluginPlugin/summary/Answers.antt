@@ -91,6 +91,12 @@ summary-requires-in-Time c = rw c.in-Time.is at c.requires
 pub returns-in-Time : goal.returns-in-Time
 returns-in-Time c = rw c.in-Time.is c.summary-in-Time.ensures
 
+pub summary-requires-in-Eit : goal.summary-requires-in-Eit
+summary-requires-in-Eit c = rw c.in-Eit.is at c.requires
+
+pub returns-in-Eit : goal.returns-in-Eit
+returns-in-Eit c = rw c.in-Eit.is c.summary-in-Eit.ensures
+
 pub summary-requires-in-Zap : goal.summary-requires-in-Zap
 summary-requires-in-Zap c = rw c.in-Zap.is at c.requires
 
