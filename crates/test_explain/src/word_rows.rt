@@ -8,7 +8,7 @@ pub(crate) struct WordsRow {
     pub(crate) rule: WordsRule,
 }
 
-static ROWS: [WordsRow; 83] = [
+static ROWS: [WordsRow; 84] = [
     WordsRow {
         words: "-P filter --pid 9000 -O drop",
         at: 0,
@@ -213,6 +213,11 @@ static ROWS: [WordsRow; 83] = [
         words: "-P zap --service 769",
         at: 0,
         rule: WordsRule::Shape,
+    },
+    WordsRow {
+        words: "-P zap 1 --keep nit,sdt",
+        at: 0,
+        rule: WordsRule::Value,
     },
     WordsRow {
         words: "-P skip 769 770",

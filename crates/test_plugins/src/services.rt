@@ -5,7 +5,7 @@ ghost use Rattle.std.specs.Prelude.{[], IfOk};
 
 use crate::cells::{bytes_from, given, live};
 use crate::compared::{holds, same};
-use plug_service::{ServiceConf, ServiceList, new_svremove, new_zap};
+use plug_service::{Kept, ServiceConf, ServiceList, ZapConf, new_svremove, new_zap};
 use plugin_trait::Plugin;
 use std::alloc::{AllocError, Global};
 use std::process::Abort;
@@ -68,9 +68,17 @@ fn begins(rt: &impl Abort, cells: &[Cell], wanted: &[u8]) {
 
 /// What is left where service 1 is kept.
 fn kept(alloc: Global) -> Result<Vec<Cell>, Fail> {
-    let conf = ServiceConf {
-        services: ServiceList::of(alloc, &[1])?,
-        stuffing: false,
+    let conf = ZapConf {
+        service: ServiceConf {
+            services: ServiceList::of(alloc, &[1])?,
+            stuffing: false,
+        },
+        kept: Kept {
+            nit: false,
+            bat: false,
+            eit: false,
+            time: false,
+        },
     };
     made_of_stream(alloc, new_zap(alloc, &conf, 1))
 }

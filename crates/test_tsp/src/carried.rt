@@ -1,4 +1,5 @@
 //! The tables that packets of the rows on editors carry.
+use crate::event_tables::EventTable;
 use crate::named_tables::NamedTable;
 use crate::network_tables::NetworkTable;
 use crate::time_tables::TimeTable;
@@ -82,6 +83,8 @@ pub(crate) enum Carried {
     Named(NamedTable),
     /// One of a network or a bouquet, or an EIT section.
     Network(NetworkTable),
+    /// An EIT section with events.
+    Events(EventTable),
     /// One of times and running states, of the short form.
     Time(TimeTable),
 }
@@ -96,6 +99,7 @@ impl Carried {
             Carried::PmtOnNext => 4097,
             Carried::Sdt | Carried::OtherSdt => 17,
             Carried::Nit => 16,
+            Carried::Events(_) => 18,
             Carried::Named(table) => table.pid(),
             Carried::Network(table) => table.pid(),
             Carried::Time(table) => table.pid(),
@@ -118,6 +122,7 @@ impl Carried {
             Carried::Nit => &NIT,
             Carried::Named(table) => table.section(),
             Carried::Network(table) => table.section(),
+            Carried::Events(table) => table.section(),
             Carried::Time(table) => table.section(),
         }
     }

@@ -13,7 +13,9 @@ mod chains;
 mod clock_rows;
 mod cycle_rows;
 mod edit_rows;
+mod eit_rows;
 mod end_rows;
+mod event_tables;
 mod every_rows;
 mod failing_ends;
 mod failing_reads;
@@ -103,7 +105,7 @@ fn write_tables<R: Threads + Wait + Sync + AllocGlobal>(
 }
 
 /// All tables, in the order in which they are printed.
-fn tables() -> [&'static [Row]; 46] {
+fn tables() -> [&'static [Row]; 48] {
     [
         end_rows::rows(),
         plugin_rows::rows(),
@@ -114,6 +116,7 @@ fn tables() -> [&'static [Row]; 46] {
         service_rows::rows(),
         window_rows::rows(),
         stream_rows::rows(),
+        eit_rows::rows(),
         clock_rows::rows(),
         time_rows::rows(),
         stamp_rows::rows(),
@@ -146,6 +149,7 @@ fn tables() -> [&'static [Row]; 46] {
         service_rows::of_words(),
         window_rows::of_words(),
         stream_rows::of_words(),
+        eit_rows::of_words(),
         clock_rows::of_words(),
         time_rows::of_words(),
         stamp_rows::of_words(),

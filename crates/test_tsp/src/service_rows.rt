@@ -8,7 +8,7 @@ pub(crate) fn rows() -> &'static [Row] {
     &SERVICE_ROWS
 }
 
-static SERVICE_ROWS: [Row; 7] = [
+static SERVICE_ROWS: [Row; 9] = [
     Row {
         name: "zap leaves nothing of the other service",
         words: "-I testgen 1 1000 -P zap 1 -P count --pid 258-259,4097,8191 -O drop",
@@ -46,6 +46,18 @@ static SERVICE_ROWS: [Row; 7] = [
         plan: ORDINARY,
     },
     Row {
+        name: "zap keeps the PIDs of NIT, TDT and TOT",
+        words: "-I testgen 1 1000 -P remap --no-psi --unchecked 258=16 259=20 -P zap 1 --keep time,nit -P count --pid 16-20,258-259 -O drop",
+        input: Input::Pids(&[]),
+        plan: ORDINARY,
+    },
+    Row {
+        name: "what is no EIT section of the service gives way to null packets",
+        words: "-I testgen 1 1000 -P remap --no-psi --unchecked 17=18 -P zap 1 --keep eit -P count --pid 16-20,8191 -O drop",
+        input: Input::Pids(&[]),
+        plan: ORDINARY,
+    },
+    Row {
         name: "svremove of both services leaves nothing of them",
         words: "-I testgen 1 1000 -P svremove 1 2 -P count -O drop",
         input: Input::Pids(&[]),
@@ -58,7 +70,7 @@ pub(crate) fn of_words() -> &'static [Row] {
     &SERVICE_WORD_ROWS
 }
 
-static SERVICE_WORD_ROWS: [Row; 3] = [
+static SERVICE_WORD_ROWS: [Row; 4] = [
     Row {
         name: "zap of no service",
         words: "-I null 2 -P zap -O drop",
@@ -68,6 +80,12 @@ static SERVICE_WORD_ROWS: [Row; 3] = [
     Row {
         name: "service 0 to keep",
         words: "-I null 2 -P zap 0 -O drop",
+        input: Input::Pids(&[]),
+        plan: ORDINARY,
+    },
+    Row {
+        name: "zap is to keep what it does not know",
+        words: "-I null 2 -P zap 1 --keep nit,sdt -O drop",
         input: Input::Pids(&[]),
         plan: ORDINARY,
     },
