@@ -44,9 +44,9 @@ def value_of(word, path):
 
 
 def taken(takes, path):
-    """The least and the greatest numbers of what an option takes, in their order; none of a flag, a text or a choice."""
+    """The least and the greatest numbers of what an option takes, in their order; none of a flag, a text, a choice or words."""
     kind, _, words = takes.partition("Takes::")[2].partition("(")
-    if kind == "Choice":
+    if kind in ("Choice", "Words"):
         return []
     numbers = [value_of(it, path) for it in re.findall(r"(?<!:)\b(?:[A-Z][A-Z_]+\b|\d[\d_]*)", words)]
     return [0, *numbers] if kind == "Ranges" else numbers
