@@ -118,7 +118,7 @@ def plugin(name, text):
 
 def plugin_names():
     """The plugins in the order in which the code lists them."""
-    listed = (TOP / "crates/plugin_set/plugins.txt").read_text(encoding="utf-8").splitlines()
+    listed = (TOP / "crates/plugin_settings/plugins.txt").read_text(encoding="utf-8").splitlines()
     return [line.split()[0] for line in listed if line.strip() and not line.startswith("#")]
 
 

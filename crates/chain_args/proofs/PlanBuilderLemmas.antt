@@ -6,15 +6,15 @@ use Rattle.std.proofs.lemmas.Bool.Decides.{nat_tests}
 use Rattle.std.proofs.lemmas.List.Elements.{All-push, filter_map-append}
 use Rattle.std.proofs.lemmas.List.Folds.{list_any-append}
 use Rattle.std.proofs.lemmas.List.Sums.{sum_by_push}
-use Rattle.plugin_set.specs.Items.{IsValidItem}
-use Rattle.plugin_set.specs.declared.plugin_item.PluginItem.{PluginItem}
+use Rattle.plugin_settings.specs.Items.{IsValidItem}
+use Rattle.plugin_settings.specs.declared.plugin_item.PluginItem.{PluginItem}
 use Rattle.chain_args.specs.Inputs.{input_kind_named, options_of_input}
 use Rattle.chain_args.specs.ValidPlan.{IsValidInput}
 use Rattle.chain_args.specs.Outputs.{output_kind_named, options_of_output}
 use Rattle.chain_args.specs.PlanBuilder.{StandsFor, segment}
 use Rattle.chain_args.specs.PlanOf.{input_made, inputs_of, output_made, outputs_of, plugin_made}
-use Rattle.plugin_set.specs.Items.{options_of_item}
-use Rattle.plugin_set.specs.Plugins.{plugin_kind_named}
+use Rattle.plugin_settings.specs.Items.{options_of_item}
+use Rattle.plugin_settings.specs.Plugins.{plugin_kind_named}
 use Rattle.plugin_options.specs.OptionTable.{broken_option, first_broken, settings_of}
 use Rattle.chain_args.specs.Rules.{broken_rule, most_plugins, or_else}
 use Rattle.chain_args.specs.Segments.{Segment, is_input, is_output, is_plugin}
@@ -23,7 +23,7 @@ use Rattle.chain_args.specs.declared.input_words.InputKind.{InputKind}
 use Rattle.chain_args.specs.declared.output_conf.OutputConf.{OutputConf}
 use Rattle.chain_args.specs.declared.output_words.OutputKind.{OutputKind}
 use Rattle.chain_args.specs.declared.plan_builder.PlanBuilder.{PlanBuilder}
-use Rattle.plugin_set.specs.declared.plugin_conf.PluginKind.{PluginKind}
+use Rattle.plugin_settings.specs.declared.plugin_conf.PluginKind.{PluginKind}
 use Rattle.plugin_options.specs.declared.words_rule.WordsRule.{WordsRule}
 use Rattle.plugin_options.specs.declared.words_rule.WordsRule.TheVariants.{NoName, TooMany, Twice, UnknownPlugin}
 

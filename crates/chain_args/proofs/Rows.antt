@@ -1,7 +1,7 @@
 -- Worked rows of words, on the definitions alone.
 use Rattle.std.proofs.Common.{None, ◌≡◌, [], ◌∷◌, Some, codes, false, true, refl}
 use Rattle.clap.proofs.OnLiterals.{clap_on_literals}
-use Rattle.plugin_set.specs.declared.plugin_conf.PluginConf.TheVariants.{Filter}
+use Rattle.plugin_settings.specs.declared.plugin_conf.PluginConf.TheVariants.{Filter}
 use Rattle.plugin_options.specs.Number.{number_of, number_within}
 use Rattle.plugin_options.specs.Options.{findings, has_flag, is_taken, value_of, values_of}
 use Rattle.plugin_options.specs.Pairs.{pair_of}

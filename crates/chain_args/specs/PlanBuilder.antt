@@ -2,7 +2,7 @@
 -- This project's own rule.
 use Rattle.std.specs.Prelude.{◌≡◌, ◌≤◌, ℕ, false, List, [], Option, Some, IfSome, count_by, is_some, length, slice_get, unwrap_or}
 use Rattle.std.specs.List.{All, list_any}
-use Rattle.plugin_set.specs.Items.{IsValidItem}
+use Rattle.plugin_settings.specs.Items.{IsValidItem}
 use Rattle.chain_args.specs.ValidPlan.{IsValidInput}
 use Rattle.chain_args.specs.PlanOf.{inputs_of, outputs_of, plugins_of}
 use Rattle.chain_args.specs.Rules.{most_plugins}

@@ -2,11 +2,11 @@
 -- This project's own rule.
 use Rattle.std.specs.Prelude.{ℕ, false, List, [], None, Option, Some, if◌then◌else◌, is_some, option_map, slice_get, unwrap_or}
 use Rattle.std.specs.List.{filter_map}
-use Rattle.plugin_set.specs.declared.plugin_item.PluginItem.{PluginItem}
+use Rattle.plugin_settings.specs.declared.plugin_item.PluginItem.{PluginItem}
 use Rattle.chain_args.specs.General.{general}
 use Rattle.chain_args.specs.Inputs.{options_of_input}
 use Rattle.chain_args.specs.Outputs.{options_of_output}
-use Rattle.plugin_set.specs.Items.{options_of_item}
+use Rattle.plugin_settings.specs.Items.{options_of_item}
 use Rattle.plugin_options.specs.OptionTable.{settings_of}
 use Rattle.chain_args.specs.Rules.{first_word_fault}
 use Rattle.chain_args.specs.Segments.{Segment, general_words, input_of, output_of, own_words, plugin_of, segments}

@@ -5,7 +5,7 @@ use Rattle.std.specs.List.{list_any}
 use Rattle.chain_args.specs.General.{general}
 use Rattle.chain_args.specs.Inputs.{options_of_input}
 use Rattle.chain_args.specs.Outputs.{options_of_output}
-use Rattle.plugin_set.specs.Items.{options_of_item}
+use Rattle.plugin_settings.specs.Items.{options_of_item}
 use Rattle.plugin_options.specs.OptionTable.{broken_option, first_broken}
 use Rattle.chain_args.specs.Segments.{Segment, general_words, input_of, is_input, is_output, is_plugin, name_of, output_of, own_words, plugin_of, segments, word_count}
 use Rattle.plugin_options.specs.declared.words_rule.WordsRule.{WordsRule}

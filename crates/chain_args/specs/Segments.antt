@@ -4,10 +4,10 @@ use Rattle.std.specs.Prelude.{ℕ, ◌+◌, ◌||◌, Bool, List, [], ◌∷◌,
 use Rattle.std.specs.Str.{bytes_eq}
 use Rattle.chain_args.specs.Inputs.{input_kind_named}
 use Rattle.chain_args.specs.Outputs.{output_kind_named}
-use Rattle.plugin_set.specs.Plugins.{plugin_kind_named}
+use Rattle.plugin_settings.specs.Plugins.{plugin_kind_named}
 use Rattle.chain_args.specs.declared.input_words.InputKind.{InputKind}
 use Rattle.chain_args.specs.declared.output_words.OutputKind.{OutputKind}
-use Rattle.plugin_set.specs.declared.plugin_conf.PluginKind.{PluginKind}
+use Rattle.plugin_settings.specs.declared.plugin_conf.PluginKind.{PluginKind}
 
 -- a segment: its first word, and the words up to the next segment
 pub record Segment : Type 0 where

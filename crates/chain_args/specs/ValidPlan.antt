@@ -2,7 +2,7 @@
 -- This project's own rule.
 use Rattle.std.specs.Prelude.{ℕ, ◌≤◌, length, IfSome}
 use Rattle.std.specs.List.{All}
-use Rattle.plugin_set.specs.Items.{IsValidItem}
+use Rattle.plugin_settings.specs.Items.{IsValidItem}
 use Rattle.plugin_options.specs.declared.limits.TheConstants.{MOST_PACKETS}
 use Rattle.chain_args.specs.Rules.{most_plugins}
 use Rattle.chain_args.specs.declared.general_conf.GeneralConf.{GeneralConf}

@@ -15,7 +15,7 @@ use crate::plan_type::Plan;
 use crate::plugin_list::PluginList;
 use packet_forms::Form;
 use plugin_options::{Refusal, WordsRule};
-use plugin_set::{PluginItem, PluginKind};
+use plugin_settings::{PluginItem, PluginKind};
 use std::alloc::{AllocError, Global};
 use ts_outside::NameText;
 

@@ -2,7 +2,7 @@
 
 ghost use Rattle.std.specs.Prelude.{◌≡◌};
 
-use plugin_set::PluginItem;
+use plugin_settings::PluginItem;
 use std::marker::Model;
 
 /// The plugins of a chain. Contracts see the list.
@@ -13,7 +13,7 @@ pub struct PluginList {
 
 impl Model for PluginList {
     ghost use Rattle.std.specs.Prelude.{List};
-    ghost use Rattle.plugin_set.specs.declared.plugin_item.PluginItem.{PluginItem};
+    ghost use Rattle.plugin_settings.specs.declared.plugin_item.PluginItem.{PluginItem};
 
     ghost Value = { List PluginItem };
 

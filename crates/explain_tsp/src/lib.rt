@@ -5,7 +5,7 @@
 use chain_args::{general_help, input_helps, output_helps};
 use explain_words::{HelpTable, SegmentRow};
 use plugin_options::SegmentHelp;
-use plugin_set::{PluginKind, further_options};
+use plugin_settings::{PluginKind, further_options};
 use std::alloc::{AllocError, Global};
 
 // A plugin, with the options that plugins share after its own.

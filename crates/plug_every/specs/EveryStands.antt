@@ -49,7 +49,7 @@ module _ {P : Type 0} (rule : P → PluginRule) (stands : P → List Cell → �
   -- the same for a plugin that may have such summaries
   abbrev pub StandsMaybe : MaybeEvery P → List Cell → ℕ → Type 0
   StandsMaybe (Plain plugin) history mark = stands plugin history mark
-  StandsMaybe (Every plugin) history mark = StandsEvery plugin history mark
+  StandsMaybe (Every plugin) history mark = StandsEvery plugin.value history mark
 
 -- its rule
 abbrev pub rule_in : {P : Type 0} → (P → PluginRule) → EveryPlugin P → PluginRule
@@ -57,7 +57,7 @@ rule_in rule s = every_rule s.every s.counts (rule s.plugin)
 
 abbrev pub rule_of_maybe : {P : Type 0} → (P → PluginRule) → MaybeEvery P → PluginRule
 rule_of_maybe rule (Plain plugin) = rule plugin
-rule_of_maybe rule (Every plugin) = rule_in rule plugin
+rule_of_maybe rule (Every plugin) = rule_in rule plugin.value
 
 -- for how many positions it took memory before the run: for none where there are such summaries, whose lines need memory at a
 -- mark
@@ -84,4 +84,4 @@ pub opens_maybe : {P : Type 0} (rule : P → PluginRule) (stands : P → List Ce
     → (plugin : MaybeEvery P) (history : List Cell) (mark : ℕ) → StandsMaybe rule stands plugin history mark
     → (rule_of_maybe rule plugin).agrees [] ≡ false
 opens_maybe rule stands opens (Plain plugin) history mark holds = opens plugin history mark holds
-opens_maybe rule stands opens (Every plugin) history mark holds = opens plugin.plugin history holds.inner holds.holds
+opens_maybe rule stands opens (Every plugin) history mark holds = opens plugin.value.plugin history holds.inner holds.holds

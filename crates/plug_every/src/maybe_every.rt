@@ -6,10 +6,12 @@ use std::alloc::{AllocError, Global};
 use ts_packet::{Cell, Labels, Packet};
 
 /// A plugin as it is, or with its summary so far at each so-many-th packet.
+///
+/// The second stands in a box of its own: a value of this type has room for one plugin, and not for two.
 #[derive(Drop)]
 pub enum MaybeEvery<P> {
     Plain(P),
-    Every(EveryPlugin<P>),
+    Every(Box<EveryPlugin<P>>),
 }
 
 impl<P: Plugin + Drop> MaybeEvery<P> {
@@ -35,9 +37,10 @@ impl<P: Plugin + Drop> MaybeEvery<P> {
     {
         match every {
             None => Ok(MaybeEvery::Plain(plugin)),
-            Some(every) => Ok(MaybeEvery::Every(EveryPlugin::of(
-                alloc, plugin, every, counts, buffer,
-            )?)),
+            Some(every) => {
+                let plugin = EveryPlugin::of(alloc, plugin, every, counts, buffer)?;
+                Ok(MaybeEvery::Every(Box::new(alloc, plugin)?))
+            }
         }
     }
 

@@ -10,7 +10,7 @@ use Rattle.chain_model.specs.SeenCells.{only_rule, seen, sees}
 use Rattle.plugin_trait.specs.declared.line.Line.{Line}
 use Rattle.plugin_trait.specs.PlacedLines.{placed_at, placed_after, placed_between}
 use Rattle.plugin_trait.specs.Steps.{HasRoom, MeetsCells}
-use Rattle.plugin_set.specs.OnlyLabels.{rule_for, shown}
+use Rattle.plugin_settings.specs.OnlyLabels.{rule_for, shown}
 
 pub length-shown : (only : Option ℕ) (cells : List Cell) → length (shown only cells) ≡ length cells
 length-shown None cells = refl

@@ -9,15 +9,15 @@
 //! that type's bound means.
 
 ghost use Rattle.std.specs.Prelude.{◌≡◌, IfOk, []};
-ghost use Rattle.plugin_set.specs.Items.{is_silent_item, preallocated_of_item, rule_of_item};
+ghost use Rattle.plugin_settings.specs.Items.{is_silent_item, preallocated_of_item, rule_of_item};
 
 use crate::idle::{Idle, why_idle};
 use crate::masked_plugin::MaskedPlugin;
-use crate::plugin_item::PluginItem;
 use crate::sees_tables::{SeesTables, add_changes};
 use crate::some_plugin::SomePlugin;
 use plug_every::MaybeEvery;
 use plug_psi::Changes;
+use plugin_settings::PluginItem;
 use plugin_trait::{Applied, Line, Outcome, Plugin};
 use std::alloc::{AllocError, Global};
 use ts_packet::{Cell, Labels, Packet};
@@ -30,7 +30,7 @@ pub struct AnyPlugin {
 }
 
 impl AnyPlugin {
-    ghost use Rattle.plugin_set.specs.Items.{IsValidItem};
+    ghost use Rattle.plugin_settings.specs.Items.{IsValidItem};
 
     /// The plugin of this item before any cell. `sections` are those of the file that its settings name
     /// (`table_file`); where they name none, they are not used. `buffer` is the number of positions that the chain
@@ -74,7 +74,7 @@ impl SeesTables for AnyPlugin {
 impl Plugin for AnyPlugin {
     ghost use Rattle.plugin_set.specs.contracts.some_plugin.SomePluginPlugin.TheImpl.Laws.{lawful as some_laws};
     ghost use Rattle.plug_every.specs.EveryStands.{opens_maybe};
-    ghost use Rattle.plugin_set.specs.OnlyLabels.{shown, starts_open_for};
+    ghost use Rattle.plugin_settings.specs.OnlyLabels.{shown, starts_open_for};
 
     ghost rule = { λ s. ⟦<MaskedPlugin<MaybeEvery<SomePlugin>> as Plugin>⟧.rule s.masked };
 

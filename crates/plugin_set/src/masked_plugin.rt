@@ -15,7 +15,7 @@ pub(crate) struct MaskedPlugin<P> {
 }
 
 impl<P> MaskedPlugin<P> {
-    ghost use Rattle.plugin_set.specs.OnlyLabels.{shows};
+    ghost use Rattle.plugin_settings.specs.OnlyLabels.{shows};
 
     // Whether a packet with these labels is shown to the plugin.
     #[inline]
@@ -30,7 +30,7 @@ impl<P> MaskedPlugin<P> {
 }
 
 impl<P: Plugin + Drop> Plugin for MaskedPlugin<P> {
-    ghost use Rattle.plugin_set.specs.OnlyLabels.{rule_for, shown, starts_open_for};
+    ghost use Rattle.plugin_settings.specs.OnlyLabels.{rule_for, shown, starts_open_for};
 
     ghost rule = { λ s. rule_for s.only (P.rule s.plugin) };
 

@@ -1,9 +1,8 @@
 //! The plugins of all kinds as one type. Written by tools/plugins from plugins.txt.
 
 ghost use Rattle.std.specs.Prelude.{◌≡◌, IfOk, []};
-ghost use Rattle.plugin_set.specs.Plugins.{is_silent, rule_of, preallocated_of};
+ghost use Rattle.plugin_settings.specs.Plugins.{is_silent, rule_of, preallocated_of};
 
-use crate::plugin_conf::PluginConf;
 use plug_analyze::Analyze;
 use plug_edit::{
     EditCat, EditNit, EditPat, EditPmt, EditSdt, new_edit_cat, new_edit_nit, new_edit_pat,
@@ -24,6 +23,7 @@ use plug_time::{Time, new_time};
 use plug_times::Timestamps;
 use plug_watch::{Continuity, Count};
 use plug_window::{Compact, Rmorphan, new_compact, new_rmorphan};
+use plugin_settings::PluginConf;
 use plugin_trait::{Applied, Line, Outcome, Plugin};
 use std::alloc::{AllocError, Global};
 use ts_packet::{Cell, Labels, Packet};
@@ -142,7 +142,7 @@ macro_rules! made_of {
 }
 
 impl SomePlugin {
-    ghost use Rattle.plugin_set.specs.Plugins.{IsValid};
+    ghost use Rattle.plugin_settings.specs.Plugins.{IsValid};
 
     /// The plugin of these settings before any cell. `sections` are those of the file that the settings name.
     /// `buffer` is the number of positions that the chain holds; a plugin for which `preallocated_of` gives that number

@@ -1,6 +1,6 @@
 //! A test of the names of plugins.
 use crate::compared::holds;
-use plugin_set::PluginKind;
+use plugin_settings::PluginKind;
 
 /// Whether a word is the name of a kind that it names.
 fn is_named(word: &str) -> bool {

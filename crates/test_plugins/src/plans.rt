@@ -3,7 +3,7 @@ use crate::compared::{holds, same, same_bytes};
 use chain_args::{Form, InputConf, OutputConf, Plan, WordsFault, WordsRule, plan};
 use plug_pass::{FilterConf, PatternConf, SliceConf};
 use plugin_options::NumberSet;
-use plugin_set::PluginConf;
+use plugin_settings::PluginConf;
 use std::alloc::Global;
 use std::process::Abort;
 use std::test::Fail;

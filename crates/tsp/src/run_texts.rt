@@ -4,7 +4,7 @@ use crate::form_seen::{Seen, form_seen};
 use chain_args::{Form, InputConf, OutputConf, Plan};
 use chain_model::Reason;
 use explain_tables::{compile_text, decompile_text};
-use plugin_set::PluginConf;
+use plugin_settings::PluginConf;
 use std::alloc::{AllocError, Global};
 use tabcomp_core::TableFileFault;
 use ts_os::{Noted, Trouble, after_name, trouble_text};

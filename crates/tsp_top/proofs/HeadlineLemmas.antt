@@ -11,7 +11,7 @@ use Rattle.chain_model.specs.Cut.{is_fault}
 use Rattle.chain_model.specs.InputList.{input_of_bytes}
 use Rattle.chain_model.specs.PureRun.{Chain, chain_cause, chain_cut, pure_run, written_to}
 use Rattle.chain_model.specs.Stuffed.{Stuffing, stuffed}
-use Rattle.plugin_set.specs.declared.plugin_item.PluginItem.{PluginItem}
+use Rattle.plugin_settings.specs.declared.plugin_item.PluginItem.{PluginItem}
 use Rattle.chain_args.specs.PlanOf.{plan_of}
 use Rattle.chain_args.specs.WordsFault.{IsFirstFault}
 use Rattle.chain_args.specs.declared.input_conf.InputConf.{InputConf}

@@ -15,8 +15,8 @@ use Rattle.chain_live.specs.LiveReports.{lines_below}
 use Rattle.chain_run.specs.Met.{AllMetFirst}
 use Rattle.chain_run.specs.RunOf.{RunBy}
 use Rattle.chain_rounds.specs.Round.{AreNames}
-use Rattle.plugin_set.specs.declared.plugin_item.PluginItem.{PluginItem}
-use Rattle.plugin_set.specs.Plugins.{name_of}
+use Rattle.plugin_settings.specs.declared.plugin_item.PluginItem.{PluginItem}
+use Rattle.plugin_settings.specs.Plugins.{name_of}
 use Rattle.plugin_trait.specs.declared.heard.Heard.{Heard}
 use Rattle.stage_run.specs.Seeing.{Seeing, heard_rule}
 use Rattle.stage_run.specs.declared.input_part.InputPart.{InputPart}

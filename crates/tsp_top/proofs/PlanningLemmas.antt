@@ -2,8 +2,8 @@
 use Rattle.std.proofs.Common.{ℕ, suc, ◌+◌, ◌<◌, ◌≤◌, List, [], ◌∷◌, length, Bool, true, false, if◌then◌else◌, arith}
 use Rattle.std.specs.List.{All}
 use Rattle.std.proofs.lemmas.List.Elements.{All-nil, All-cons, All-append, All-weaker}
-use Rattle.plugin_set.specs.declared.plugin_item.PluginItem.{PluginItem}
-use Rattle.plugin_set.specs.Plugins.{uses_joint}
+use Rattle.plugin_settings.specs.declared.plugin_item.PluginItem.{PluginItem}
+use Rattle.plugin_settings.specs.Plugins.{uses_joint}
 use Rattle.tsp_top.specs.PlannedChain.{user_at, users_from}
 
 -- a number that is the one of a list, or not in it

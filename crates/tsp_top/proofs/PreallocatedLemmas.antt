@@ -5,8 +5,8 @@ use Rattle.ts_outside.specs.Preallocated.{PreallocatedDeskView, preallocated_des
 use Rattle.ts_outside.specs.Faultless.{NothingFails}
 use Rattle.chain_args.specs.declared.input_conf.InputConf.{InputConf}
 use Rattle.chain_args.specs.declared.input_conf.InputConf.TheVariants as input
-use Rattle.plugin_set.specs.declared.plugin_item.PluginItem.{PluginItem}
-use Rattle.plugin_set.specs.Plugins.{table_file_of}
+use Rattle.plugin_settings.specs.declared.plugin_item.PluginItem.{PluginItem}
+use Rattle.plugin_settings.specs.Plugins.{table_file_of}
 use Rattle.tsp_top.specs.Headline.{TellsInput, TellsTable, TellsTables}
 
 quiet : IsQuiet 0 0

@@ -13,7 +13,7 @@ use Rattle.chain_live.proofs.LineLaws.{grows}
 use Rattle.chain_rounds.specs.Told.{shown}
 use Rattle.chain_rounds.specs.declared.told_line.ToldLine.{ToldLine}
 use Rattle.chain_tells.specs.Live.{HeardRows, lines_of_rows}
-use Rattle.plugin_set.specs.declared.plugin_item.PluginItem.{PluginItem}
+use Rattle.plugin_settings.specs.declared.plugin_item.PluginItem.{PluginItem}
 use Rattle.tsp_top.specs.Printed.{live_line}
 use Rattle.chain_tells.specs.Printing.{PrintsLines, PrintsOn}
 use Rattle.chain_tells.specs.declared.printing.Printing.{Printing}

@@ -20,7 +20,7 @@ use Rattle.chain_model.specs.Stuffed as model
 use Rattle.chain_core.specs.Stages.{stages_of}
 use Rattle.chain_core.specs.declared.closed.Closed.{Closed}
 use Rattle.chain_core.specs.declared.core_plan.CorePlan.{CorePlan}
-use Rattle.plugin_set.specs.declared.plugin_item.PluginItem.{PluginItem}
+use Rattle.plugin_settings.specs.declared.plugin_item.PluginItem.{PluginItem}
 use Rattle.chain_args.specs.declared.plan_type.Plan.{Plan}
 use Rattle.plugin_trait.specs.Steps.{IsPreallocatedFor}
 use Rattle.plugin_trait.specs.declared.heard.Heard.{Heard}
@@ -41,7 +41,7 @@ use Rattle.ts_outside.specs.Saying.{Says}
 use Rattle.ts_outside.specs.Entries.{asked_for, outputs_with}
 use Rattle.chain_run.specs.RunOf.{LeftInput, LeftOutput, RunBy}
 use Rattle.chain_live.specs.LiveReports.{LiveLine, lines_below}
-use Rattle.plugin_set.specs.Items.{preallocated_of_item}
+use Rattle.plugin_settings.specs.Items.{preallocated_of_item}
 use Rattle.tsp_top.specs.CallOutcome.{ran, unreported, out_of_memory, run_status, status_of, FaultRose, LateRose}
 use Rattle.tsp_top.specs.CanEnd.{CanEndBy}
 use Rattle.tsp_top.specs.MemoryFirst.{TakesLater}

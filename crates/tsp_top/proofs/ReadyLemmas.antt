@@ -8,8 +8,8 @@ use Rattle.chain_model.specs.Reports.{rules_of}
 use Rattle.plugin_trait.specs.declared.heard.Heard.{Heard}
 use Rattle.plugin_trait.specs.HeardStands.{HeardStands}
 use Rattle.chain_run.specs.Fresh.{AreFresh}
-use Rattle.plugin_set.specs.Items.{preallocated_of_item, rule_of_item}
-use Rattle.plugin_set.specs.declared.plugin_item.PluginItem.{PluginItem}
+use Rattle.plugin_settings.specs.Items.{preallocated_of_item, rule_of_item}
+use Rattle.plugin_settings.specs.declared.plugin_item.PluginItem.{PluginItem}
 use Rattle.tsp_top.specs.PlannedChain.{first_table, later_tables, named_rules}
 use Rattle.tsp_top.proofs.CallLemmas.{fresh_push}
 

@@ -9,10 +9,10 @@ use Rattle.chain_model.specs.declared.cause.Cause.{Cause}
 use Rattle.chain_model.specs.Reports.{NamedRule, plugin_report, said_of, rules_of, reports_from, end_line}
 use Rattle.plugin_trait.specs.Marks.{AllowsMark}
 use Rattle.chain_run.specs.Met.{AllMetTo}
-use Rattle.plugin_set.specs.declared.plugin_item.PluginItem.{PluginItem}
-use Rattle.plugin_set.specs.Items.{rule_of_item}
+use Rattle.plugin_settings.specs.declared.plugin_item.PluginItem.{PluginItem}
+use Rattle.plugin_settings.specs.Items.{rule_of_item}
 use Rattle.tsp_top.specs.PlannedChain.{first_table, later_tables, named_rules}
-use Rattle.plugin_set.specs.Plugins.{name_of}
+use Rattle.plugin_settings.specs.Plugins.{name_of}
 use Rattle.chain_args.specs.declared.general_conf.GeneralConf.{GeneralConf}
 use Rattle.tsp_top.specs.CallOutcome.{run_status}
 use Rattle.tsp_top.specs.Faults.{faults_from}

@@ -17,7 +17,7 @@ use Rattle.ts_packet.specs.declared.cell.Cell.{Cell}
 use Rattle.chain_run.specs.RunOf.{RunBy}
 use Rattle.chain_run.proofs.RunUses.{met-to}
 use Rattle.std.proofs.lemmas.List.{length-map}
-use Rattle.plugin_set.specs.declared.plugin_item.PluginItem.{PluginItem}
+use Rattle.plugin_settings.specs.declared.plugin_item.PluginItem.{PluginItem}
 use Rattle.chain_args.specs.declared.general_conf.GeneralConf.{GeneralConf}
 use Rattle.chain_args.specs.declared.plan_type.Plan.{Plan}
 use Rattle.chain_model.specs.Reports.{rules_of}

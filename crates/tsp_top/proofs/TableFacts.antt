@@ -1,7 +1,7 @@
 -- What follows of tables over a desk whose files are known: they are one, and no file ends the call.
 use Rattle.std.proofs.Common.{◌≡◌, ℕ, List, [], ◌∷◌, ◌++◌, ◌+◌, length, Bool, Option, None, Some, IfSome, Result, Ok, Err, refl, ap, sym, ◌∙◌, subst}
-use Rattle.plugin_set.specs.declared.plugin_item.PluginItem.{PluginItem}
-use Rattle.plugin_set.specs.Plugins.{table_file_of}
+use Rattle.plugin_settings.specs.declared.plugin_item.PluginItem.{PluginItem}
+use Rattle.plugin_settings.specs.Plugins.{table_file_of}
 use Rattle.tabcomp_core.specs.declared.table_file_fault.TableFileFault.{TableFileFault}
 use Rattle.tabcomp_core.specs.TableFiles.{sections_of_file}
 use Rattle.std.specs.Option.{option_map}

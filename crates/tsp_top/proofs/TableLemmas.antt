@@ -2,8 +2,8 @@
 use Rattle.std.proofs.Common.{◌≡◌, ℕ, zero, suc, ◌+◌, ◌<◌, List, [], ◌∷◌, ◌++◌, length, replicate, map, take, Bool, Option, None, Some, IfSome, IsErrAnd, MatchResult, Result, Ok, Err, Vec, Global, refl, ap, sym, ◌∙◌, subst, inl, inr, arith, append_assoc, append-nil}
 use Rattle.std.proofs.lemmas.List.{map-append, take_all, length-replicate}
 use Rattle.std.proofs.Math.Seq.{take-append-add}
-use Rattle.plugin_set.specs.declared.plugin_item.PluginItem.{PluginItem}
-use Rattle.plugin_set.specs.Plugins.{table_file_of}
+use Rattle.plugin_settings.specs.declared.plugin_item.PluginItem.{PluginItem}
+use Rattle.plugin_settings.specs.Plugins.{table_file_of}
 use Rattle.tabcomp_core.specs.declared.table_file_fault.TableFileFault.{TableFileFault}
 use Rattle.tabcomp_core.specs.declared.table_file_fault.TableFileFault.TheVariants.{TooMany}
 use Rattle.tabcomp_core.specs.TableFiles.{most_bytes}

@@ -4,8 +4,8 @@ use Rattle.chain_model.specs.declared.input_end.InputEnd.TheVariants.{End}
 use Rattle.chain_model.specs.declared.cause.Cause.{Cause}
 use Rattle.chain_model.specs.declared.cause.Cause.TheVariants.{Input, Joint, Until, Stop}
 use Rattle.chain_model.specs.PureRun.{Chain, chain_cause, chain_cut, pure_run}
-use Rattle.plugin_set.specs.declared.plugin_item.PluginItem.{PluginItem}
-use Rattle.plugin_set.specs.Plugins.{table_file_of}
+use Rattle.plugin_settings.specs.declared.plugin_item.PluginItem.{PluginItem}
+use Rattle.plugin_settings.specs.Plugins.{table_file_of}
 use Rattle.chain_args.specs.declared.input_conf.InputConf.{InputConf}
 use Rattle.chain_args.specs.declared.input_conf.InputConf.TheVariants as input
 use Rattle.chain_args.specs.declared.plan_type.Plan.{Plan}

@@ -1,7 +1,7 @@
 -- The tables of a plan: the sections of the files that the settings of its plugins name. This project's own rule.
 use Rattle.std.specs.Prelude.{◌≡◌, ℕ, List, [], ◌∷◌, ◌++◌, map, true, Option, None, Some, IfSome, Result, Ok}
-use Rattle.plugin_set.specs.declared.plugin_item.PluginItem.{PluginItem}
-use Rattle.plugin_set.specs.Plugins.{table_file_of}
+use Rattle.plugin_settings.specs.declared.plugin_item.PluginItem.{PluginItem}
+use Rattle.plugin_settings.specs.Plugins.{table_file_of}
 use Rattle.tabcomp_core.specs.declared.table_file_fault.TableFileFault.{TableFileFault}
 use Rattle.tabcomp_core.specs.TableFiles.{sections_of_file}
 use Rattle.ts_outside.specs.declared.requests.Asked.{Asked}

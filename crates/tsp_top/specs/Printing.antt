@@ -7,8 +7,8 @@ use Rattle.chain_model.specs.Prefix.{IsPrefix}
 use Rattle.chain_live.specs.LiveReports.{LiveLine}
 use Rattle.chain_rounds.specs.Told.{shown}
 use Rattle.chain_rounds.specs.declared.told_line.ToldLine.{ToldLine}
-use Rattle.plugin_set.specs.declared.plugin_item.PluginItem.{PluginItem}
-use Rattle.plugin_set.specs.Plugins.{name_of}
+use Rattle.plugin_settings.specs.declared.plugin_item.PluginItem.{PluginItem}
+use Rattle.plugin_settings.specs.Plugins.{name_of}
 use Rattle.tsp_top.specs.Printed.{live_text}
 
 -- the name of the plugin of this number, counted from 1

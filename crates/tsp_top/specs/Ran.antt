@@ -24,7 +24,7 @@ use Rattle.chain_run.specs.RunOf.{RunBy, NeverBegan}
 use Rattle.chain_model.specs.Apply.{StageList}
 use Rattle.chain_model.specs.PureRun.{Chain}
 use Rattle.chain_live.specs.LiveReports.{lines_below}
-use Rattle.plugin_set.specs.Items.{preallocated_of_item}
+use Rattle.plugin_settings.specs.Items.{preallocated_of_item}
 use Rattle.search_source.specs.declared.file_source.KeptGaps.{KeptGaps}
 use Rattle.tsp_top.specs.ByPlugin.{by_plugin}
 use Rattle.tsp_top.specs.PlannedChain.{stuffing_of, named_rules, users_of}

@@ -1,8 +1,8 @@
 -- A call that is over before the files of all plugins were read. This project's own rule.
 use Rattle.std.specs.Prelude.{◌≡◌, ◌⊎◌, ℕ, ◌+◌, List, [], ◌∷◌, ◌++◌, length, take, codes, Bool, Some, Err}
 use Rattle.std.specs.Fmt.{decimal}
-use Rattle.plugin_set.specs.declared.plugin_item.PluginItem.{PluginItem}
-use Rattle.plugin_set.specs.Plugins.{table_file_of}
+use Rattle.plugin_settings.specs.declared.plugin_item.PluginItem.{PluginItem}
+use Rattle.plugin_settings.specs.Plugins.{table_file_of}
 use Rattle.tabcomp_core.specs.declared.table_file_fault.TableFileFault.{TableFileFault}
 use Rattle.ts_outside.specs.declared.requests.Purpose.TheVariants.{File}
 use Rattle.ts_outside.specs.Desk.{DeskView, asked_well, asked_in_vain}

@@ -29,7 +29,7 @@ use crate::saying::say_on;
 use crate::status::{Status, status_of_run};
 use chain_args::{GeneralConf, Plan};
 use chain_core::Closed;
-use plugin_set::PluginItem;
+use plugin_settings::PluginItem;
 use plugin_trait::{Heard, Line, Plugin};
 use search_source::KeptGaps;
 use std::alloc::{AllocError, Global};

@@ -11,7 +11,7 @@ ghost use Rattle.tsp_top.specs.PlannedCore.{IsPlannedCore};
 use crate::driver::Driver;
 use chain_args::{GeneralConf, Plan};
 use chain_core::{CorePlan, StageSet};
-use plugin_set::PluginItem;
+use plugin_settings::PluginItem;
 use stage_run::Stuffing;
 
 /// The stuffing of the general options.

@@ -2,7 +2,7 @@
 ghost use Rattle.std.specs.Prelude.{◌≡◌, ◌++◌, ◌∷◌, [], map, IfOk, IsOkAnd, OnOk};
 ghost use Rattle.std.specs.List.{All};
 ghost use Rattle.plugin_trait.specs.HeardStands.{HeardStands};
-ghost use Rattle.plugin_set.specs.Items.{IsValidItem, preallocated_of_item};
+ghost use Rattle.plugin_settings.specs.Items.{IsValidItem, preallocated_of_item};
 ghost use Rattle.chain_args.specs.ValidPlan.{IsValidPlan};
 ghost use Rattle.chain_model.specs.Reports.{rules_of};
 ghost use Rattle.chain_run.specs.Fresh.{AreFresh};
@@ -14,7 +14,8 @@ use crate::driver::Driver;
 use crate::planning::{planned_core, planned_stuffing};
 use chain_args::Plan;
 use chain_core::CorePlan;
-use plugin_set::{AnyPlugin, PluginItem};
+use plugin_set::AnyPlugin;
+use plugin_settings::PluginItem;
 use plugin_trait::{Heard, Plugin};
 use stage_run::Stuffing;
 use std::alloc::{AllocError, Global};

@@ -20,7 +20,7 @@ use crate::reporting::{either, push_reports};
 use crate::status::{Status, status_of_run};
 use chain_args::GeneralConf;
 use chain_core::Closed;
-use plugin_set::PluginItem;
+use plugin_settings::PluginItem;
 use plugin_trait::{Heard, Plugin};
 use search_source::KeptGaps;
 use std::alloc::{AllocError, Global};

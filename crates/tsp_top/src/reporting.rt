@@ -14,7 +14,7 @@ ghost use Rattle.tsp_top.specs.Printed.{printed_from, printed_line};
 ghost use Rattle.tsp_top.specs.Reported.{ReachesCut};
 
 use crate::judging::judge;
-use plugin_set::PluginItem;
+use plugin_settings::PluginItem;
 use plugin_trait::{Heard, Line, Plugin, report};
 use std::alloc::AllocError;
 

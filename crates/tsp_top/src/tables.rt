@@ -3,15 +3,15 @@ ghost use Rattle.std.specs.Prelude.{◌≡◌, ◌+◌, ◌<◌, ◌^◌, ◌++�
 ghost use Rattle.std.specs.Fmt.{decimal};
 ghost use Rattle.std.specs.String.{string_bytes};
 ghost use Rattle.chain_args.specs.ValidPlan.{IsValidPlan};
-ghost use Rattle.plugin_set.specs.Plugins.{table_file_of};
-ghost use Rattle.plugin_set.specs.declared.plugin_item.PluginItem.{PluginItem as GivenItem};
+ghost use Rattle.plugin_settings.specs.Plugins.{table_file_of};
+ghost use Rattle.plugin_settings.specs.declared.plugin_item.PluginItem.{PluginItem as GivenItem};
 ghost use Rattle.ts_outside.specs.Desk.{DeskView, content};
 ghost use Rattle.tsp_top.specs.PlannedTables.{HasSections, IsTable, ReadsTables, files_asked, name_if_any};
 ghost use Rattle.tsp_top.specs.TableEnds.{IsOverAtPlugin, IsOverAtTable, IsOverAtTables, RefusesTable};
 
 use crate::status::Status;
 use chain_args::Plan;
-use plugin_set::PluginItem;
+use plugin_settings::PluginItem;
 use std::alloc::{AllocError, Global};
 use tabcomp_core::{MOST_BYTES, NoTables, TableFileFault, table_sections};
 use ts_outside::{Desk, FileFault, say};

@@ -9,7 +9,7 @@ ghost use Rattle.tsp_top.specs.Printing.{name_at, told_text};
 use crate::reporting::push_line;
 use chain_rounds::ToldLine;
 use chain_tells::{LineTexts, WaitingLines};
-use plugin_set::PluginItem;
+use plugin_settings::PluginItem;
 use std::alloc::{AllocError, Global};
 
 /// The name of the plugin of this number, counted from 1.

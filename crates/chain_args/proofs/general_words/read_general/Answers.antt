@@ -1,5 +1,5 @@
 use Rattle.std.proofs.Common.{refl}
-use Rattle.plugin_set.proofs.ItemLemmas.{words_read, words_refused}
+use Rattle.plugin_settings.proofs.ItemLemmas.{words_read, words_refused}
 use Rattle.chain_args.specs.General.{general}
 use Rattle.chain_args.proofs.general_words.read_general.Goals as goal
 

@@ -1,5 +1,5 @@
 use Rattle.std.proofs.Common.{refl}
-use Rattle.plugin_set.proofs.ItemLemmas.{words_read, words_refused}
+use Rattle.plugin_settings.proofs.ItemLemmas.{words_read, words_refused}
 use Rattle.chain_args.specs.Inputs.{file_input}
 use Rattle.chain_args.proofs.input_words.read_file.Goals as goal
 

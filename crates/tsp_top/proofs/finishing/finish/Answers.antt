@@ -1,5 +1,5 @@
 use Rattle.std.proofs.Common.{is_err, ap, map, List, ◌∙◌, ◌++◌, ◌||◌, sym, refl, inl, inr}
-use Rattle.plugin_set.specs.declared.plugin_item.PluginItem.{PluginItem}
+use Rattle.plugin_settings.specs.declared.plugin_item.PluginItem.{PluginItem}
 use Rattle.chain_model.specs.Reports.{rules_of}
 use Rattle.ts_outside.specs.Desk.{DeskView}
 use Rattle.tsp_top.specs.ByPlugin.{by_plugin}

@@ -4,7 +4,7 @@ use Rattle.std.specs.List.{flat_map}
 use Rattle.chain_model.specs.PluginRule.{PluginRule}
 use Rattle.tsp_top.specs.LiveEnds.{plugin_stands}
 use Rattle.plugin_trait.specs.declared.line.Line.{Line}
-use Rattle.plugin_set.specs.Plugins.{name_of}
+use Rattle.plugin_settings.specs.Plugins.{name_of}
 use Rattle.tsp_top.specs.ByPlugin.{by_plugin}
 use Rattle.tsp_top.specs.PlannedChain.{later_tables}
 use Rattle.tsp_top.specs.Printed.{printed_line, summary_said}

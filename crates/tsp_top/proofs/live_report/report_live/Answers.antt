@@ -3,7 +3,7 @@ use Rattle.chain_model.specs.PluginRule.{PluginRule}
 use Rattle.chain_model.specs.Reports.{end_line, rules_of}
 use Rattle.chain_live.specs.LiveReports.{LiveLine, lines_below}
 use Rattle.chain_run.specs.Met.{AllMetTo}
-use Rattle.plugin_set.specs.declared.plugin_item.PluginItem.{PluginItem}
+use Rattle.plugin_settings.specs.declared.plugin_item.PluginItem.{PluginItem}
 use Rattle.ts_outside.specs.Saying.{Says}
 use Rattle.tsp_top.specs.ByPlugin.{by_plugin}
 use Rattle.tsp_top.specs.Faults.{faults_from}

@@ -1,5 +1,5 @@
 use Rattle.std.proofs.Common.{◌≡◌, List, length, ap}
-use Rattle.plugin_set.specs.declared.plugin_item.PluginItem.{PluginItem}
+use Rattle.plugin_settings.specs.declared.plugin_item.PluginItem.{PluginItem}
 use Rattle.tsp_top.proofs.PlanningLemmas.{users-are-plugins}
 use Rattle.tsp_top.proofs.planning.planned_core.Goals as goal
 

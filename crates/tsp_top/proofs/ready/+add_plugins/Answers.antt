@@ -2,7 +2,7 @@ use Rattle.std.proofs.Common.{◌≡◌, ℕ, rules}
 use Rattle.std.proofs.lemmas.List.Elements.{All-rest}
 use Rattle.std.proofs.lemmas.Result.{on_ok_weaker}
 use Rattle.plugin_trait.specs.HeardStands.{HeardStands}
-use Rattle.plugin_set.specs.Items.{IsValidItem, preallocated_of_item, rule_of_item}
+use Rattle.plugin_settings.specs.Items.{IsValidItem, preallocated_of_item, rule_of_item}
 use Rattle.plugin_set.specs.contracts.any_plugin.AnyPluginPlugin.TheImpl.{ghosts as any}
 use Rattle.tsp_top.specs.ByPlugin.{by_plugin}
 use Rattle.tsp_top.proofs.ReadyLemmas.{OneMore, one_more, heard_is, heard_fresh, rooms_after, rules_after}

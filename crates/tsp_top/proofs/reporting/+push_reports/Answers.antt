@@ -5,7 +5,7 @@ use Rattle.chain_model.specs.PluginRule.{PluginRule}
 use Rattle.chain_model.specs.Reports.{said_of}
 use Rattle.plugin_trait.specs.HeardStands.{HeardStands}
 use Rattle.plugin_trait.specs.declared.line.Line.{Line}
-use Rattle.plugin_set.specs.Plugins.{name_of}
+use Rattle.plugin_settings.specs.Plugins.{name_of}
 use Rattle.tsp_top.specs.ByPlugin.{by_plugin}
 use Rattle.tsp_top.specs.PlannedChain.{later_tables}
 use Rattle.tsp_top.specs.Printed.{printed_line}

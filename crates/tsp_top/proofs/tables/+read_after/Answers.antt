@@ -1,5 +1,5 @@
 use Rattle.std.proofs.Common.{◌≡◌, ◌+◌, [], ◌∷◌, ◌++◌, length, length-append, arith}
-use Rattle.plugin_set.specs.declared.plugin_item.PluginItem.{PluginItem}
+use Rattle.plugin_settings.specs.declared.plugin_item.PluginItem.{PluginItem}
 use Rattle.tsp_top.proofs.TableLemmas.{handed-on, ends-at-next, wants-behind-next, reads-one-more, one-more-table, rest-read}
 use Rattle.tsp_top.proofs.tables.+read_after.Goals as goal
 

@@ -1,5 +1,5 @@
 use Rattle.std.proofs.Common.{◌≡◌, ℕ, List, Option, subst, sym}
-use Rattle.plugin_set.specs.Plugins.{table_file_of}
+use Rattle.plugin_settings.specs.Plugins.{table_file_of}
 use Rattle.tsp_top.specs.PlannedTables.{IsTable, files_asked, name_if_any}
 use Rattle.tsp_top.proofs.TableLemmas.{named-table, unnamed-table}
 use Rattle.tsp_top.proofs.tables.read_if_named.Goals as goal

@@ -1,5 +1,5 @@
 use Rattle.std.proofs.Common.{ℕ, List, [], map, refl, subst, Vec, Global}
-use Rattle.plugin_set.specs.declared.plugin_item.PluginItem.{PluginItem}
+use Rattle.plugin_settings.specs.declared.plugin_item.PluginItem.{PluginItem}
 use Rattle.tsp_top.specs.PlannedTables.{ReadsTables}
 use Rattle.tsp_top.specs.TableEnds.{IsOverAtTables}
 use Rattle.tsp_top.proofs.TableLemmas.{handed-on, none-read}

@@ -1,6 +1,6 @@
 use Rattle.std.proofs.Common.{◌∙◌, ap, map, arith, refl}
 use Rattle.std.specs.String.{string_bytes}
-use Rattle.plugin_set.specs.Plugins.{plugin_kind_named}
+use Rattle.plugin_settings.specs.Plugins.{plugin_kind_named}
 use Rattle.chain_args.proofs.PlanBuilderLemmas.{plugin_added}
 use Rattle.chain_args.proofs.plan_builder.PlanBuilder.add_plugin.Goals as goal
 

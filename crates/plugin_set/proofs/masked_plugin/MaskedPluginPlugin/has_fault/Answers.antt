@@ -1,5 +1,5 @@
 use Rattle.std.proofs.Common.{◌∙◌, sym}
-use Rattle.plugin_set.specs.OnlyLabels.{shown}
+use Rattle.plugin_settings.specs.OnlyLabels.{shown}
 use Rattle.plugin_set.proofs.ShownLemmas.{fault-shown}
 use Rattle.plugin_set.proofs.masked_plugin.MaskedPluginPlugin.has_fault.Goals as goal
 

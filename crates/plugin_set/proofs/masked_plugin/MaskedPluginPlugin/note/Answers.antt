@@ -1,6 +1,6 @@
 use Rattle.std.proofs.Common.{◌≡◌, ◌≤◌, ℕ, List, [], ◌++◌, sym, subst, is_ok, if◌then◌else◌}
 use Rattle.plugin_trait.specs.declared.line.Line.{Line}
-use Rattle.plugin_set.specs.OnlyLabels.{shown}
+use Rattle.plugin_settings.specs.OnlyLabels.{shown}
 use Rattle.plugin_set.proofs.ShownLemmas.{length-shown, between-shown}
 use Rattle.plugin_set.proofs.masked_plugin.MaskedPluginPlugin.note.Goals as goal
 

@@ -1,7 +1,7 @@
 use Rattle.std.proofs.Common.{◌≡◌, ℕ, List, ◌++◌, sym, subst}
 use Rattle.std.specs.Result.{OnOk}
 use Rattle.plugin_trait.specs.PlacedLines.{placed_at}
-use Rattle.plugin_set.specs.OnlyLabels.{shown}
+use Rattle.plugin_settings.specs.OnlyLabels.{shown}
 use Rattle.plugin_set.proofs.ShownLemmas.{summary-shown}
 use Rattle.plugin_set.proofs.masked_plugin.MaskedPluginPlugin.summary.Goals as goal
 

@@ -1,5 +1,0 @@
-use Rattle.plugin_set.proofs.ListLemmas.{never_agrees}
-use Rattle.plugin_set.proofs.laws.only_joint_agrees.Goals as goal
-
-pub returns : goal.returns
-returns c = never_agrees

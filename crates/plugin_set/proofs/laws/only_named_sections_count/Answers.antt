@@ -1,5 +1,0 @@
-use Rattle.plugin_set.proofs.ListLemmas.{same_rule}
-use Rattle.plugin_set.proofs.laws.only_named_sections_count.Goals as goal
-
-pub returns : goal.returns
-returns c = same_rule

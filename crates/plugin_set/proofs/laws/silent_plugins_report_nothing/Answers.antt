@@ -1,5 +1,0 @@
-use Rattle.plugin_set.proofs.ListLemmas.{silent_item}
-use Rattle.plugin_set.proofs.laws.silent_plugins_report_nothing.Goals as goal
-
-pub returns : goal.returns
-returns c = silent_item

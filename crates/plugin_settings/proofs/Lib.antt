@@ -1,0 +1,4 @@
+pub mod ArmLemmas
+pub mod ItemLemmas
+pub mod SilentRules
+pub mod ListLemmas

@@ -1,0 +1,83 @@
+-- Written by tools/plugins from plugins.txt.
+use Rattle.plugin_settings.proofs.plugin_conf.PluginKind.name.Goals as goal
+
+pub returns-in-Filter : goal.returns-in-Filter
+returns-in-Filter c = rw c.in-Filter.is c.name.ensures
+
+pub returns-in-Skip : goal.returns-in-Skip
+returns-in-Skip c = rw c.in-Skip.is c.name-in-Skip.ensures
+
+pub returns-in-Slice : goal.returns-in-Slice
+returns-in-Slice c = rw c.in-Slice.is c.name-in-Slice.ensures
+
+pub returns-in-Pattern : goal.returns-in-Pattern
+returns-in-Pattern c = rw c.in-Pattern.is c.name-in-Pattern.ensures
+
+pub returns-in-Until : goal.returns-in-Until
+returns-in-Until c = rw c.in-Until.is c.name-in-Until.ensures
+
+pub returns-in-Count : goal.returns-in-Count
+returns-in-Count c = rw c.in-Count.is c.name-in-Count.ensures
+
+pub returns-in-Continuity : goal.returns-in-Continuity
+returns-in-Continuity c = rw c.in-Continuity.is c.name-in-Continuity.ensures
+
+pub returns-in-Remap : goal.returns-in-Remap
+returns-in-Remap c = rw c.in-Remap.is c.name-in-Remap.ensures
+
+pub returns-in-Inject : goal.returns-in-Inject
+returns-in-Inject c = rw c.in-Inject.is c.name-in-Inject.ensures
+
+pub returns-in-Pat : goal.returns-in-Pat
+returns-in-Pat c = rw c.in-Pat.is c.name-in-Pat.ensures
+
+pub returns-in-Cat : goal.returns-in-Cat
+returns-in-Cat c = rw c.in-Cat.is c.name-in-Cat.ensures
+
+pub returns-in-Pmt : goal.returns-in-Pmt
+returns-in-Pmt c = rw c.in-Pmt.is c.name-in-Pmt.ensures
+
+pub returns-in-Sdt : goal.returns-in-Sdt
+returns-in-Sdt c = rw c.in-Sdt.is c.name-in-Sdt.ensures
+
+pub returns-in-Nit : goal.returns-in-Nit
+returns-in-Nit c = rw c.in-Nit.is c.name-in-Nit.ensures
+
+pub returns-in-Time : goal.returns-in-Time
+returns-in-Time c = rw c.in-Time.is c.name-in-Time.ensures
+
+pub returns-in-Eit : goal.returns-in-Eit
+returns-in-Eit c = rw c.in-Eit.is c.name-in-Eit.ensures
+
+pub returns-in-Zap : goal.returns-in-Zap
+returns-in-Zap c = rw c.in-Zap.is c.name-in-Zap.ensures
+
+pub returns-in-Svremove : goal.returns-in-Svremove
+returns-in-Svremove c = rw c.in-Svremove.is c.name-in-Svremove.ensures
+
+pub returns-in-Analyze : goal.returns-in-Analyze
+returns-in-Analyze c = rw c.in-Analyze.is c.name-in-Analyze.ensures
+
+pub returns-in-Info : goal.returns-in-Info
+returns-in-Info c = rw c.in-Info.is c.name-in-Info.ensures
+
+pub returns-in-Tables : goal.returns-in-Tables
+returns-in-Tables c = rw c.in-Tables.is c.name-in-Tables.ensures
+
+pub returns-in-Compact : goal.returns-in-Compact
+returns-in-Compact c = rw c.in-Compact.is c.name-in-Compact.ensures
+
+pub returns-in-Rmorphan : goal.returns-in-Rmorphan
+returns-in-Rmorphan c = rw c.in-Rmorphan.is c.name-in-Rmorphan.ensures
+
+pub returns-in-Pcrverify : goal.returns-in-Pcrverify
+returns-in-Pcrverify c = rw c.in-Pcrverify.is c.name-in-Pcrverify.ensures
+
+pub returns-in-Timestamps : goal.returns-in-Timestamps
+returns-in-Timestamps c = rw c.in-Timestamps.is c.name-in-Timestamps.ensures
+
+pub returns-in-Rate : goal.returns-in-Rate
+returns-in-Rate c = rw c.in-Rate.is c.name-in-Rate.ensures
+
+pub returns-in-Restuff : goal.returns-in-Restuff
+returns-in-Restuff c = rw c.in-Restuff.is c.name-in-Restuff.ensures

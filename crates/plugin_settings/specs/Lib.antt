@@ -1,0 +1,4 @@
+-- The definitions of the settings of all plugins.
+pub mod Plugins
+pub mod OnlyLabels
+pub mod Items
