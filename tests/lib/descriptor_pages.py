@@ -2,7 +2,7 @@
 
 `pages` reads the table. `shown` is the element that JSON has for a body, by the rules of docs/json.md, or None where the body is
 not of the page; of a text that is neither plain ASCII nor UTF-8 after its mark it knows the key alone, and raises `Unsure`.
-`bodies` draws bodies of a page, and others that are nearly so.
+`bodies` draws bodies of a page, and others that are nearly so; `page_for` finds the page of a body.
 """
 import collections
 import pathlib
@@ -12,8 +12,11 @@ import time
 TOP = pathlib.Path(__file__).resolve().parents[2]
 
 Row = collections.namedtuple("Row", "name kind count")
-Page = collections.namedtuple("Page", "tag name front item each back groups", defaults=((),))
+Page = collections.namedtuple("Page", "tag name front item each back groups extension", defaults=((), None))
 Group = collections.namedtuple("Group", "name values rows")
+
+# The tag of extension descriptors: the first byte of their bodies is the tag of an extension, which is that of their pages.
+EXTENSION = 0x7F
 
 # Where `back` is None the items, if there are any, go up to the end. A group's rows are there where the field of its name is one of
 # its values; where it has no name, they always are.
@@ -63,23 +66,35 @@ def grouped_page(tag, name, fields):
 
 
 def page_of(line):
-    tag, name, _, fields, _ = (part.strip() for part in line.strip("|\n").split(" | "))
+    tags, name, _, fields, _ = (part.strip() for part in line.strip("|\n").split(" | "))
+    tag, _, extension = tags.partition("/")
+    page = page_by(int(tag, 16), name.strip("`"), fields)
+    return page._replace(extension=int(extension, 16)) if extension else page
+
+
+def page_by(tag, name, fields):
     if "if `" in fields:
-        return grouped_page(int(tag, 16), name.strip("`"), fields)
+        return grouped_page(tag, name, fields)
     loop = re.search(r"(each|counted) `(\w+)`: \((.*?)\)", fields)
     if not loop:
-        return Page(int(tag, 16), name.strip("`"), rows_of(fields), None, None, None)
+        return Page(tag, name, rows_of(fields), None, None, None)
     around = fields[:loop.start()].rstrip("; "), fields[loop.end():].lstrip("; ")
     rows = rows_of(";".join(around))
     place = len(rows_of(around[0]))
     back = rows[place:] if loop[1] == "counted" else None
-    return Page(int(tag, 16), name.strip("`"), rows[:place], loop[2], rows_of(loop[3]), back)
+    return Page(tag, name, rows[:place], loop[2], rows_of(loop[3]), back)
 
 
 def pages():
     text = (TOP / "docs/formats.md").read_text(encoding="utf-8")
     table = text.partition("| Tag | Name | Clause | Fields | Bytes of |\n")[2].splitlines()[1:]
     return [page_of(line[1:]) for line in table[:table.index("")]]
+
+
+def page_for(table, tag, body):
+    """The page of a descriptor with this tag and body; None where it has none."""
+    extension = body[0] if tag == EXTENSION and body else None
+    return next((page for page in table if (page.tag, page.extension) == (tag, extension)), None)
 
 
 # ---- reading
@@ -183,7 +198,7 @@ def with_texts(element):
 
 def shown(page, body):
     """The element of a body; None where it is not of the page."""
-    bits = Bits(body)
+    bits = Bits(body if page.extension is None else body[1:])
     try:
         element = {"#name": page.name, **values_of(page.front, bits)}
         if page.item and page.back is None:
@@ -256,7 +271,7 @@ def drawn(chance, page):
     if page.groups:
         front = values_of(page.front, Bits(bytes_of(bits)))
         bits += "".join(drawn_rows(chance, group.rows) for group in page.groups if is_there(group, front))
-    return bytes_of(bits)
+    return (b"" if page.extension is None else bytes([page.extension])) + bytes_of(bits)
 
 
 def spoiled(chance, body):

@@ -5,7 +5,9 @@ use ts_charsets::all_text_tables;
 use ts_fields::{Field, Kind, Layout};
 use ts_groups::FieldGroup;
 use ts_json_tables::{short_layout_named, tot_fields};
-use ts_shown_pages::{groups_of, layout_named, layout_of};
+use ts_shown_pages::{
+    extension_groups_of, extension_named, extension_of, groups_of, layout_named, layout_of,
+};
 use ts_table_pages::{
     bat_layout, cat_layout, eit_layout, nit_layout, pat_layout, pmt_layout, sdt_layout,
 };
@@ -71,7 +73,10 @@ fn table_named(name: &str) -> Option<&'static TableLayout> {
 
 // The page of a descriptor, or of a table of the short form.
 fn page_named(name: &str) -> Option<&'static Layout> {
-    match layout_named(name) {
+    if let Some(page) = layout_named(name) {
+        return Some(page);
+    }
+    match extension_named(name) {
         Some(page) => Some(page),
         None => short_layout_named(name),
     }
@@ -112,10 +117,14 @@ fn rows_of(place: Place<'_>) -> (&'static [Field], &'static [Field]) {
 
 // The groups of further fields of a descriptor, which are there by the values of others.
 fn groups_at(place: Place<'_>) -> &'static [FieldGroup] {
-    let Some(page) = layout_named(place.name) else {
-        return &[];
+    let groups = if let Some(page) = layout_named(place.name) {
+        groups_of(page.tag)
+    } else if let Some(page) = extension_named(place.name) {
+        extension_groups_of(page.tag)
+    } else {
+        None
     };
-    match groups_of(page.tag) {
+    match groups {
         Some(groups) => groups,
         None => &[],
     }
@@ -216,6 +225,22 @@ fn item_name(parent: &str) -> &'static str {
     ""
 }
 
+// Puts the names of descriptors, those of extension descriptors last.
+fn put_descriptors(text: &mut String) -> Result<(), AllocError> {
+    text.push_str(" generic_descriptor")?;
+    for tag in 0..=255 {
+        if let Some(page) = layout_of(tag) {
+            write!(text, " {}", page.name)?;
+        }
+    }
+    for tag in 0..=255 {
+        if let Some(page) = extension_of(tag) {
+            write!(text, " {}", page.name)?;
+        }
+    }
+    Ok(())
+}
+
 /// Puts a line with the elements that may be where this one is; nothing where none may.
 pub(crate) fn put_known_elements(text: &mut String, place: Place<'_>) -> Result<(), AllocError> {
     if place.parent == "tsduck" {
@@ -233,12 +258,7 @@ pub(crate) fn put_known_elements(text: &mut String, place: Place<'_>) -> Result<
         write!(text, " {item}")?;
     }
     if described {
-        text.push_str(" generic_descriptor")?;
-        for tag in 0..=255 {
-            if let Some(page) = layout_of(tag) {
-                write!(text, " {}", page.name)?;
-            }
-        }
+        put_descriptors(text)?;
     }
     text.push('\n')
 }

@@ -12,7 +12,7 @@ use ts_jtree::{JsonFault, JsonKind, ReadRefusal};
 type ShownRow = (u8, &'static [u8], &'static str);
 
 /// Descriptors and their texts. All are read again.
-static SHOWN: [ShownRow; 7] = [
+static SHOWN: [ShownRow; 10] = [
     // 346 MHz, 64-QAM, 6.875 Mbaud
     (
         0x44,
@@ -61,10 +61,26 @@ static SHOWN: [ShownRow; 7] = [
         ],
         r##"{"#name":"generic_descriptor","data":"00656e6703016101620163","tag":78}"##,
     ),
+    // an extension descriptor with a language, with a flag for one that is not there, and one of an extension without a page
+    (
+        0x7F,
+        &[0x06, 0x07, b'e', b'n', b'g'],
+        r##"{"#name":"supplementary_audio_descriptor","editorial_classification":1,"language_code":"eng","language_code_present":true,"mix_type":0,"private_data":""}"##,
+    ),
+    (
+        0x7F,
+        &[0x06, 0x07, b'e', b'n'],
+        r##"{"#name":"generic_descriptor","data":"0607656e","tag":127}"##,
+    ),
+    (
+        0x7F,
+        &[0x52, 0x07],
+        r##"{"#name":"generic_descriptor","data":"5207","tag":127}"##,
+    ),
 ];
 
 /// The rows. The content of a `static` is written into each function that names it.
-fn shown_rows() -> &'static [ShownRow; 7] {
+fn shown_rows() -> &'static [ShownRow; 10] {
     &SHOWN
 }
 

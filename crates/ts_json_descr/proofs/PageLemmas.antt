@@ -9,6 +9,7 @@ use Rattle.ts_fields.specs.Layout as layout
 use Rattle.ts_fields.specs.Layout.{Row, Held}
 use Rattle.ts_fields.specs.Spelling.{holds}
 use Rattle.ts_groups.specs.Groups.{Group, grouped_exact, grouped_sound}
+use Rattle.ts_shown_pages.specs.Extensions.{extension_groups_of, extension_named, extension_of, extensions}
 use Rattle.ts_shown_pages.specs.Pages.{groups_of, pages, page_of, page_named, second_quarter, third_quarter, last_quarter}
 use Rattle.ts_jtree.specs.Shown.{are_within, value_within}
 use Rattle.ts_json_descr.specs.DescrElements.{generic_name}
@@ -39,89 +40,128 @@ abbrev pub groups_good : Page → Option (List Group) → Bool
 groups_good p None = true
 groups_good p (Some groups) = grouped_sound p groups && (grouped_exact p groups && show_again (p.head ++ every groups))
 
--- a page whose descriptors can be shown and read again, by a name that is not the generic one
-abbrev is_good : Page → Bool
-is_good p =
-    show_again p.head && (items_show p.items && (page_exact p
-    && (not (bytes_eq p.name generic_name) && groups_good p (groups_of p.tag))))
+-- a page with such groups whose descriptors can be shown and read again
+abbrev is_shown : Page → Option (List Group) → Bool
+is_shown p groups = show_again p.head && (items_show p.items && (page_exact p && groups_good p groups))
 
-all_good : list_all is_good pages ≡ true
-unfolding second_quarter third_quarter last_quarter
-all_good = refl
-
--- each page is the one of its name
-abbrev AllNamed : List Page → Type 0
-AllNamed [] = Unit {0}
-AllNamed (p ∷ ps) = (page_named p.name ≡ Some p) × AllNamed ps
-
-named_each : (ps : List Page) → map (λ p. page_named p.name) ps ≡ map (λ p. Some p) ps → AllNamed ps
-named_each [] is = tt
-named_each (p ∷ ps) is =
-    let first : Some (page_named p.name) ≡ Some (Some p) = ap (λ l. slice_get l 0) is in
-    (same_Some _ _ first, named_each ps (ap (drop 1) is))
-
-all_named : AllNamed pages
-unfolding second_quarter third_quarter last_quarter
-all_named = named_each pages refl
-
-pub record Good (tag : ℕ) (p : Page) : Type 0 where
-  pub tagged : tag ≡ p.tag
-  pub named : page_named p.name ≡ Some p
-  pub own : bytes_eq p.name generic_name ≡ false
+pub record Shown (p : Page) (groups : Option (List Group)) : Type 0 where
   pub head : show_again p.head ≡ true
   pub items : items_show p.items ≡ true
   pub exact : page_exact p ≡ true
-  pub grouped : groups_good p (groups_of p.tag) ≡ true
+  pub grouped : groups_good p groups ≡ true
 
-good : (tag : ℕ) (p : Page) → nat_eq tag p.tag ≡ true → page_named p.name ≡ Some p → is_good p ≡ true → Good tag p
-good tag p at name is =
-    let one = both (show_again p.head) _ is in
-    let two = both (items_show p.items) _ one.1 in
-    let three = both (page_exact p) _ two.1 in
-    let four = both (not (bytes_eq p.name generic_name)) (groups_good p (groups_of p.tag)) three.1 in
-    record { tagged = eqb-true tag p.tag at; named = name; own = not_true _ four.0; head = one.0; items = two.0; exact = three.0; grouped = four.1 }
+shown_is : (p : Page) (groups : Option (List Group)) → is_shown p groups ≡ true → Shown p groups
+shown_is p groups is =
+    let one = both (show_again p.head) (items_show p.items && (page_exact p && groups_good p groups)) is in
+    let two = both (items_show p.items) (page_exact p && groups_good p groups) one.1 in
+    let three = both (page_exact p) (groups_good p groups) two.1 in
+    record { head = one.0; items = two.0; exact = three.0; grouped = three.1 }
 
-found_first : (tag : ℕ) (q p : Page) (b : Bool) (rest : Option Page) → nat_eq tag q.tag ≡ b
-    → (if b then Some q else rest) ≡ Some p → (nat_eq tag q.tag ≡ true → Good tag q) → (rest ≡ Some p → Good tag p)
-    → Good tag p
-found_first tag q p true rest at found here later =
-    let same : q ≡ p = same_Some _ _ found in subst (Good tag) same (here at)
-found_first tag q p false rest at found here later = later found
+-- such a page, by a name that is not the generic one
+abbrev is_good : (ℕ → Option (List Group)) → Page → Bool
+is_good groups p = not (bytes_eq p.name generic_name) && is_shown p (groups p.tag)
 
-good_in : (tag : ℕ) (ps : List Page) (p : Page) → list_all is_good ps ≡ true → AllNamed ps
-    → find (λ q. nat_eq tag q.tag) ps ≡ Some p → Good tag p
-good_in tag [] p is names found = cc
-good_in tag (q ∷ ps) p is names found =
-    let parts = both (is_good q) (list_all is_good ps) is in
-    found_first tag q p (nat_eq tag q.tag) (find (λ x. nat_eq tag x.tag) ps) refl found
-    (λ at. good tag q at names.0 parts.0) (good_in tag ps p parts.1 names.1)
+-- what each page of a list has
+abbrev AllOf : (Page → Type 0) → List Page → Type 0
+AllOf P [] = Unit {0}
+AllOf P (p ∷ ps) = P p × AllOf P ps
 
-pub page_good : (tag : ℕ) (p : Page) → page_of tag ≡ Some p → Good tag p
-page_good tag p found = good_in tag pages p all_good all_named found
+-- where two look-ups give the same pages, they give the same one for each
+each_same : (f g : Page → Option Page) (ps : List Page) → map f ps ≡ map g ps → AllOf (λ p. f p ≡ g p) ps
+each_same f g [] is = tt
+each_same f g (p ∷ ps) is =
+    let first : Some (f p) ≡ Some (g p) = ap (λ l. slice_get l 0) is in
+    (same_Some _ _ first, each_same f g ps (ap (drop 1) is))
 
-first_good : (q p : Page) (b : Bool) (rest : Option Page) → (if b then Some q else rest) ≡ Some p → is_good q ≡ true
-    → (rest ≡ Some p → is_good p ≡ true) → is_good p ≡ true
-first_good q p true rest found good later = subst (λ x. is_good x ≡ true) (same_Some _ _ found) good
-first_good q p false rest found good later = later found
+first_found : (P : Page → Type 0) (test : Page → Bool) (q p : Page) (b : Bool) (rest : Option Page) → test q ≡ b
+    → (if b then Some q else rest) ≡ Some p → P q → (rest ≡ Some p → P p × (test p ≡ true)) → P p × (test p ≡ true)
+first_found P test q p true rest at found here later =
+    subst (λ x. P x × (test x ≡ true)) (same_Some _ _ found) (here, at)
+first_found P test q p false rest at found here later = later found
 
-found_good : (test : Page → Bool) (ps : List Page) (p : Page) → list_all is_good ps ≡ true → find test ps ≡ Some p
-    → is_good p ≡ true
-found_good test [] p all found = cc
-found_good test (q ∷ ps) p all found =
-    let parts = both (is_good q) (list_all is_good ps) all in
-    first_good q p (test q) (find test ps) found parts.0 (λ later. found_good test ps p parts.1 later)
+-- what each page of a list has, the one that is found has, and it passes the test
+found_in : (P : Page → Type 0) (test : Page → Bool) (ps : List Page) (p : Page) → AllOf P ps → find test ps ≡ Some p
+    → P p × (test p ≡ true)
+found_in P test [] p all found = cc
+found_in P test (q ∷ ps) p all found =
+    first_found P test q p (test q) (find test ps) refl found all.0 (found_in P test ps p all.1)
 
-sound_by : (p : Page) (groups : Option (List Group)) → groups_good p groups ≡ true → groups_sound p groups ≡ true
+-- ---- the pages by tags
+
+pub record Good (p : Page) : Type 0 where
+  pub named : page_named p.name ≡ Some p
+  pub own : bytes_eq p.name generic_name ≡ false
+  pub shown : Shown p (groups_of p.tag)
+
+good_each : (ps : List Page) → list_all (is_good groups_of) ps ≡ true → AllOf (λ p. page_named p.name ≡ Some p) ps
+    → AllOf Good ps
+good_each [] is named = tt
+good_each (p ∷ ps) is named =
+    let parts = both (is_good groups_of p) (list_all (is_good groups_of) ps) is in
+    let one = both (not (bytes_eq p.name generic_name)) (is_shown p (groups_of p.tag)) parts.0 in
+    (record { named = named.0; own = not_true _ one.0; shown = shown_is p (groups_of p.tag) one.1 }, good_each ps parts.1 named.1)
+
+all_good : AllOf Good pages
+unfolding second_quarter third_quarter last_quarter
+all_good = good_each pages refl (each_same (λ p. page_named p.name) (λ p. Some p) pages refl)
+
+pub page_good : (tag : ℕ) (p : Page) → page_of tag ≡ Some p → Good p × (tag ≡ p.tag)
+page_good tag p found =
+    let it = found_in Good (λ q. nat_eq tag q.tag) pages p all_good found in
+    (it.0, eqb-true tag p.tag it.1)
+
+-- ---- the pages by the tags of extensions
+
+-- no other page has the name of one
+pub record GoodExtension (p : Page) : Type 0 where
+  pub apart : page_named p.name ≡ None
+  pub named : extension_named p.name ≡ Some p
+  pub own : bytes_eq p.name generic_name ≡ false
+  pub shown : Shown p (extension_groups_of p.tag)
+
+extension_each : (ps : List Page) → list_all (is_good extension_groups_of) ps ≡ true
+    → AllOf (λ p. page_named p.name ≡ None) ps → AllOf (λ p. extension_named p.name ≡ Some p) ps → AllOf GoodExtension ps
+extension_each [] is apart named = tt
+extension_each (p ∷ ps) is apart named =
+    let parts = both (is_good extension_groups_of p) (list_all (is_good extension_groups_of) ps) is in
+    let one = both (not (bytes_eq p.name generic_name)) (is_shown p (extension_groups_of p.tag)) parts.0 in (
+      record { apart = apart.0; named = named.0; own = not_true _ one.0; shown = shown_is p (extension_groups_of p.tag) one.1 },
+      extension_each ps parts.1 apart.1 named.1,
+    )
+
+all_extensions : AllOf GoodExtension extensions
+unfolding extensions second_quarter third_quarter last_quarter
+all_extensions =
+    extension_each extensions refl
+    (each_same (λ p. page_named p.name) (λ p. None) extensions refl)
+    (each_same (λ p. extension_named p.name) (λ p. Some p) extensions refl)
+
+pub extension_good : (tag : ℕ) (p : Page) → extension_of tag ≡ Some p → GoodExtension p × (tag ≡ p.tag)
+extension_good tag p found =
+    let it = found_in GoodExtension (λ q. nat_eq tag q.tag) extensions p all_extensions found in
+    (it.0, eqb-true tag p.tag it.1)
+
+-- ---- the groups of a page that was found can be read and written
+
+sound_by : (p : Page) (groups : Option (List Group)) → Shown p groups → IsTrue (groups_sound p groups)
 sound_by p None is = refl
-sound_by p (Some groups) is = (both (grouped_sound p groups) _ is).0
+sound_by p (Some groups) is = (both (grouped_sound p groups) _ is.grouped).0
 
--- the groups of a page that was found can be read and written
 pub groups_by_tag : (tag : ℕ) (p : Page) → page_of tag ≡ Some p → IsTrue (groups_sound p (groups_of p.tag))
-groups_by_tag tag p found = let it = page_good tag p found in sound_by p (groups_of p.tag) it.grouped
+groups_by_tag tag p found = let it = page_good tag p found in sound_by p (groups_of p.tag) it.0.shown
 
 pub groups_by_name : (name : List ℕ) (p : Page) → page_named name ≡ Some p → IsTrue (groups_sound p (groups_of p.tag))
 groups_by_name name p found =
-    let one = both (show_again p.head) _ (found_good (λ q. bytes_eq name q.name) pages p all_good found) in
-    let two = both (items_show p.items) _ one.1 in
-    let three = both (page_exact p) _ two.1 in
-    sound_by p (groups_of p.tag) (both (not (bytes_eq p.name generic_name)) (groups_good p (groups_of p.tag)) three.1).1
+    let it = found_in Good (λ q. bytes_eq name q.name) pages p all_good found in
+    sound_by p (groups_of p.tag) it.0.shown
+
+pub extension_groups_by_tag : (tag : ℕ) (p : Page) → extension_of tag ≡ Some p
+    → IsTrue (groups_sound p (extension_groups_of p.tag))
+extension_groups_by_tag tag p found =
+    let it = extension_good tag p found in sound_by p (extension_groups_of p.tag) it.0.shown
+
+pub extension_groups_by_name : (name : List ℕ) (p : Page) → extension_named name ≡ Some p
+    → IsTrue (groups_sound p (extension_groups_of p.tag))
+extension_groups_by_name name p found =
+    let it = found_in GoodExtension (λ q. bytes_eq name q.name) extensions p all_extensions found in
+    sound_by p (extension_groups_of p.tag) it.0.shown

@@ -1,26 +1,29 @@
 -- A descriptor that is shown is read again.
 use Rattle.std.proofs.Common.{◌≡◌, ℕ, ◌+◌, ◌<◌, ◌≤◌, Bool, true, false, List, [], ◌∷◌, ◌++◌, ◌∙◌, length, take, refl, sym, ap, arith, map, subst}
-use Rattle.std.specs.Prelude.{Option, Some, None, Ok, Err, option_map, option_and_then, nat_lt}
-use Rattle.std.proofs.lemmas.Bool.{lt-ltb, le-leb}
-use Rattle.serde_json.specs.Data.{Data, Items}
+use Rattle.std.specs.Prelude.{Option, Some, None, Ok, Err, option_map, nat_eq, nat_lt, if◌then◌else◌}
+use Rattle.std.proofs.lemmas.Bool.{eqb-true, lt-ltb, le-leb}
+use Rattle.std.proofs.lemmas.Option.{same_Some}
+use Rattle.serde_json.specs.Data.{Data, Items, Members}
 use Rattle.serde_json.specs.Find.{get_member}
 use Rattle.serde_json.specs.View.{items_of}
 use Rattle.ts_bits.specs.TaggedBody.{TaggedBody}
-use Rattle.ts_fields.specs.Bits.{bits_of}
+use Rattle.ts_fields.specs.Bits.{bits, bits_of}
 use Rattle.ts_fields.specs.Bodies.{Page, Holding, all_fit, held_by, items_fit, page_exact, page_fits, read_page, spell_page}
 use Rattle.ts_fields.specs.Fitting.{are_bytes, fits}
 use Rattle.ts_fields.specs.Layout.{Row, Held, number, bytes}
 use Rattle.ts_groups.specs.Groups.{Group, chosen, grouped_exact, grouped_sound, page_with, read_grouped}
+use Rattle.ts_shown_pages.specs.Extensions.{extension_groups_of, extension_of, extension_tag}
 use Rattle.ts_shown_pages.specs.Pages.{groups_of, page_of}
 use Rattle.ts_jtree.specs.Attributes.{read_attributes}
 use Rattle.ts_jtree.specs.Elements.{keys_known, name_of, nodes_at, nodes_key, nodes_of, no_children, read_element}
 use Rattle.ts_jtree.specs.Faults.{Reading, ◌>>=◌}
 use Rattle.ts_jtree.specs.Shown.{are_within, element_members, rows_show}
-use Rattle.ts_json_descr.specs.DescrElements.{body_shown, descr_shown, generic_name, generic_page, generic_rows, generic_shown, item_shown, items_shown, read_paged, shown_by}
+use Rattle.ts_json_descr.specs.DescrElements.{body_shown, by_page, descr_shown, extension_typed, generic_name, generic_page, generic_rows, generic_shown, item_shown, items_shown, read_paged, shown_by}
+use Rattle.ts_json_descr.specs.DescrReading as reads
 use Rattle.ts_json_descr.specs.DescrReading.{descr_read, read_children, read_generic, read_holding, read_item, read_items, read_typed, sized}
 use Rattle.ts_json_descr.proofs.BodyLemmas.{Lengths}
 use Rattle.ts_json_descr.proofs.GroupLemmas.{every, first_attributes, plain, show_again, show_chosen}
-use Rattle.ts_json_descr.proofs.PageLemmas.{groups_good, items_show, page_good, plain_within}
+use Rattle.ts_json_descr.proofs.PageLemmas.{Shown, extension_good, groups_good, items_show, page_good, plain_within}
 use Rattle.ts_json_descr.proofs.StepLemmas.{both, not_more}
 use Rattle.std.proofs.lemmas.Slice.Eq.{bytes_eq-Decides}
 use Rattle.std.specs.Prelude.{bytes_eq}
@@ -91,38 +94,39 @@ sized_again : (n tag : ℕ) (from to : List Bool) → nat_lt 2040 (length from) 
     → sized n from ≡ Ok (tag, to)
 sized_again n tag from to test same is = rw (test, same) (ap (λ l. Ok (n, l)) (sym is))
 
-typed_again : Laws → (d : TaggedBody) (p : Page) (h : Holding) → length d.body ≤ 255 → page_of d.tag ≡ Some p
-    → groups_of p.tag ≡ None → read_page p (bits_of d.body) ≡ Some h → descr_read (body_shown p h) ≡ Ok (d.tag, bits_of d.body)
-unfolding descr_read read_typed
-typed_again laws d p h short found none read =
-    let good = page_good d.tag p found in
-    let took = laws.written p (bits_of d.body) h good.exact read in
+-- members that are read by a page as these bytes, and whose name is the page's
+record ReadsBack (p : Page) (groups : Option (List Group)) (row : List ℕ) (ms : Members) : Type 0 where
+  named : name_of ms ≡ Ok p.name
+  read : reads.read_paged p groups ms ≡ Ok (p.tag, bits_of row)
+
+-- the members of a body of a page
+abbrev members_shown : Page × Holding → Members
+members_shown x = element_members x.0.head x.0.name (items_shown x.0.items x.1.items) x.1.head
+
+plain_back : Laws → (p : Page) (h : Holding) (row : List ℕ) → length row ≤ 255 → Shown p None
+    → read_page p (bits_of row) ≡ Some h → ReadsBack p None row (members_shown (p, h))
+unfolding read_typed
+plain_back laws p h row short good read =
+    let took = laws.written p (bits_of row) h good.exact read in
     let parts = both (rows_show p.head) (plain p.head) good.head in
     let inside = plain_within p.head h.head parts.1 in
-    let small : length (spell_page p h) ≤ 2040 = omega (arith, ap length took.0, laws.lengths d.body) in
+    let small : length (spell_page p h) ≤ 2040 = omega (arith, ap length took.0, laws.lengths row) in
     let test = not_more 2040 (length (spell_page p h)) (nat_lt 2040 (length (spell_page p h))) refl small in
-    let last : sized p.tag (spell_page p h) ≡ Ok (d.tag, bits_of d.body) = sized_again p.tag d.tag (spell_page p h) (bits_of d.body) test good.tagged took.0 in
-    rw (
-      laws.name p.head p.name (items_shown p.items h.items) h.head parts.0,
-      good.own,
-      good.named,
-      none,
-      holding_again laws p h parts.0 good.items inside took.1,
-    ) last
+    record {
+      named = laws.name p.head p.name (items_shown p.items h.items) h.head parts.0;
+      read = rw (holding_again laws p h parts.0 good.items inside took.1) (sized_again p.tag p.tag (spell_page p h) (bits_of row) test refl took.0);
+    }
 
 -- the element of the fields that are there is read by the same fields
-chosen_again : Laws → (d : TaggedBody) (p : Page) (groups : List Group) (h : Holding) → length d.body ≤ 255
-    → page_of d.tag ≡ Some p → groups_of p.tag ≡ Some groups
-    → bits_of d.body ≡ spell_page (page_with p groups (take (held_by p.head) h.head)) h
+chosen_back : Laws → (p : Page) (groups : List Group) (h : Holding) (row : List ℕ) → length row ≤ 255 → Shown p (Some groups)
+    → bits_of row ≡ spell_page (page_with p groups (take (held_by p.head) h.head)) h
     → page_fits (page_with p groups (take (held_by p.head) h.head)) h ≡ true
-    → descr_read (body_shown (page_with p groups (take (held_by p.head) h.head)) h) ≡ Ok (d.tag, bits_of d.body)
-unfolding descr_read read_typed
-chosen_again laws d p groups h short found there same fit =
+    → ReadsBack p (Some groups) row (members_shown (page_with p groups (take (held_by p.head) h.head), h))
+unfolding read_typed
+chosen_back laws p groups h row short good same fit =
     let values = take (held_by p.head) h.head in
     let q = page_with p groups values in
-    let good = page_good d.tag p found in
-    let well : groups_good p (Some groups) ≡ true = sym (ap (groups_good p) there) ∙ good.grouped in
-    let shows = show_chosen p.head groups values (both (grouped_exact p groups) (show_again (p.head ++ every groups)) (both (grouped_sound p groups) _ well).1).1 in
+    let shows = show_chosen p.head groups values (both (grouped_exact p groups) (show_again (p.head ++ every groups)) (both (grouped_sound p groups) _ good.grouped).1).1 in
     let parts = both (rows_show q.head) (plain q.head) shows in
     let inside = plain_within q.head h.head parts.1 in
     let ms = element_members q.head p.name None h.head in
@@ -130,21 +134,56 @@ chosen_again laws d p groups h short found there same fit =
     let first : read_attributes p.head ms ≡ Ok values =
     first_attributes p.head (chosen groups values) ms h.head (laws.values q.head p.name None h.head parts.0 halves.0 inside) in
     let all : read_holding q ms ≡ Ok h = holding_again laws q h parts.0 refl inside fit in
-    let small : length (spell_page q h) ≤ 2040 = omega (arith, ap length same, laws.lengths d.body) in
+    let small : length (spell_page q h) ≤ 2040 = omega (arith, ap length same, laws.lengths row) in
     let test = not_more 2040 (length (spell_page q h)) (nat_lt 2040 (length (spell_page q h))) refl small in
-    let last : sized p.tag (spell_page q h) ≡ Ok (d.tag, bits_of d.body) = sized_again p.tag d.tag (spell_page q h) (bits_of d.body) test good.tagged same in
-    rw (laws.name q.head p.name None h.head parts.0, good.own, good.named, there, first, all) last
+    record {
+      named = laws.name q.head p.name None h.head parts.0;
+      read = rw (first, all) (sized_again p.tag p.tag (spell_page q h) (bits_of row) test refl same);
+    }
 
-grouped_again : Laws → (d : TaggedBody) (p : Page) (groups : List Group) (q : Page) (h : Holding) → length d.body ≤ 255
-    → page_of d.tag ≡ Some p → groups_of p.tag ≡ Some groups → read_grouped p groups (bits_of d.body) ≡ Some (q, h)
-    → descr_read (body_shown q h) ≡ Ok (d.tag, bits_of d.body)
-grouped_again laws d p groups q h short found there read =
+grouped_back : Laws → (p : Page) (groups : List Group) (q : Page) (h : Holding) (row : List ℕ) → length row ≤ 255
+    → Shown p (Some groups) → read_grouped p groups (bits_of row) ≡ Some (q, h)
+    → ReadsBack p (Some groups) row (members_shown (q, h))
+grouped_back laws p groups q h row short good read =
+    let exact = (both (grouped_exact p groups) _ (both (grouped_sound p groups) _ good.grouped).1).0 in
+    let took = laws.grouped p groups (bits_of row) q h exact read in
+    subst (λ x. ReadsBack p (Some groups) row (members_shown (x, h))) (sym took.0)
+    (chosen_back laws p groups h row short good (took.1 ∙ ap (λ x. spell_page x h) took.0) (ap (λ x. page_fits x h) (sym took.0) ∙ took.2))
+
+-- what a page reads is shown so that the page reads it again
+paged_back : Laws → (p : Page) (groups : Option (List Group)) (row : List ℕ) (x : Page × Holding) → length row ≤ 255
+    → Shown p groups → read_paged p groups (bits_of row) ≡ Some x → ReadsBack p groups row (members_shown x)
+paged_back laws p None row x short good read = go (read_page p (bits_of row)) refl read
+  where
+    go : (r : Option Holding) → read_page p (bits_of row) ≡ r → option_map (λ h. (p, h)) r ≡ Some x → ReadsBack p None row (members_shown x)
+    go None at is = cc
+    go (Some h) at is =
+        let same : (p, h) ≡ x = same_Some _ _ is in
+        subst (λ z. ReadsBack p None row (members_shown z)) same (plain_back laws p h row short good at)
+paged_back laws p (Some groups) row x short good read = grouped_back laws p groups x.0 x.1 row short good read
+
+typed_again : Laws → (d : TaggedBody) (p : Page) (x : Page × Holding) → length d.body ≤ 255 → page_of d.tag ≡ Some p
+    → read_paged p (groups_of p.tag) (bits_of d.body) ≡ Some x → descr_read (body_shown x.0 x.1) ≡ Ok (d.tag, bits_of d.body)
+unfolding descr_read
+typed_again laws d p x short found read =
     let good = page_good d.tag p found in
-    let well : groups_good p (Some groups) ≡ true = sym (ap (groups_good p) there) ∙ good.grouped in
-    let exact = (both (grouped_exact p groups) _ (both (grouped_sound p groups) _ well).1).0 in
-    let took = laws.grouped p groups (bits_of d.body) q h exact read in
-    subst (λ x. descr_read (body_shown x h) ≡ Ok (d.tag, bits_of d.body)) (sym took.0)
-    (chosen_again laws d p groups h short found there (took.1 ∙ ap (λ x. spell_page x h) took.0) (ap (λ x. page_fits x h) (sym took.0) ∙ took.2))
+    let back = paged_back laws p (groups_of p.tag) d.body x short good.0.shown read in
+    rw (back.named, good.0.own, good.0.named, back.read) (ap (λ n. Ok (n, bits_of d.body)) (sym good.1))
+
+-- the same of an extension descriptor: its element is read as the extension's tag and the bytes after it
+extension_again : Laws → (d : TaggedBody) (tag : ℕ) (row : List ℕ) (p : Page) (x : Page × Holding) → d.body ≡ tag ∷ row
+    → d.tag ≡ extension_tag → length d.body ≤ 255 → extension_of tag ≡ Some p
+    → read_paged p (extension_groups_of p.tag) (bits_of row) ≡ Some x → descr_read (body_shown x.0 x.1) ≡ Ok (d.tag, bits_of d.body)
+unfolding descr_read
+extension_again laws d tag row p x body is short found read =
+    let good = extension_good tag p found in
+    let few : length row ≤ 255 = omega (arith, ap length body, short) in
+    let back = paged_back laws p (extension_groups_of p.tag) row x few good.0.shown read in
+    let whole = bits 8 p.tag ++ bits_of row in
+    let same : bits_of d.body ≡ whole = ap bits_of body ∙ ap (λ n. bits 8 n ++ bits_of row) good.1 in
+    let small : length whole ≤ 2040 = omega (arith, ap length same, laws.lengths d.body, short) in
+    let test = not_more 2040 (length whole) (nat_lt 2040 (length whole)) refl small in
+    rw (back.named, good.0.own, good.0.apart, good.0.named, back.read) (sized_again extension_tag d.tag whole (bits_of d.body) test is same)
 
 generic_again : Laws → (d : TaggedBody) → d.tag < 256 → are_bytes d.body ≡ true → length d.body ≤ 255
     → descr_read (generic_shown d) ≡ Ok (d.tag, bits_of d.body)
@@ -157,28 +196,39 @@ generic_again laws d small is short =
     let fit_page : page_fits generic_page h ≡ true = rw fit refl in
     rw (laws.name generic_rows generic_name None h.head refl, holding_again laws generic_page h refl refl inside fit_page) refl
 
-by_groups : Laws → (d : TaggedBody) (p : Page) (groups : Option (List Group)) → d.tag < 256 → are_bytes d.body ≡ true
-    → length d.body ≤ 255 → page_of d.tag ≡ Some p → groups_of p.tag ≡ groups
-    → descr_read (shown_by (read_paged p groups (bits_of d.body)) d) ≡ Ok (d.tag, bits_of d.body)
-by_groups laws d p None small is short found none = go (read_page p (bits_of d.body)) refl
-  where
-    go : (read : Option Holding) → read_page p (bits_of d.body) ≡ read → descr_read (shown_by (option_map (λ h. (p, h)) read) d) ≡ Ok (d.tag, bits_of d.body)
-    go None read = generic_again laws d small is short
-    go (Some h) read = typed_again laws d p h short found none read
-by_groups laws d p (Some groups) small is short found there = go (read_grouped p groups (bits_of d.body)) refl
-  where
-    go : (read : Option (Page × Holding)) → read_grouped p groups (bits_of d.body) ≡ read → descr_read (shown_by read d) ≡ Ok (d.tag, bits_of d.body)
-    go None read = generic_again laws d small is short
-    go (Some x) read = grouped_again laws d p groups x.0 x.1 short found there read
-
 shown_by_page : Laws → (d : TaggedBody) (page : Option Page) → d.tag < 256 → are_bytes d.body ≡ true
     → length d.body ≤ 255 → page_of d.tag ≡ page
-    → descr_read (shown_by (option_and_then (λ p. read_paged p (groups_of p.tag) (bits_of d.body)) page) d)
-    ≡ Ok (d.tag, bits_of d.body)
+    → descr_read (shown_by (by_page page groups_of d.body) d) ≡ Ok (d.tag, bits_of d.body)
 shown_by_page laws d None small is short found = generic_again laws d small is short
-shown_by_page laws d (Some p) small is short found = by_groups laws d p (groups_of p.tag) small is short found refl
+shown_by_page laws d (Some p) small is short found = go (read_paged p (groups_of p.tag) (bits_of d.body)) refl
+  where
+    go : (read : Option (Page × Holding)) → read_paged p (groups_of p.tag) (bits_of d.body) ≡ read → descr_read (shown_by read d) ≡ Ok (d.tag, bits_of d.body)
+    go None read = generic_again laws d small is short
+    go (Some x) read = typed_again laws d p x short found read
+
+shown_by_extension : Laws → (d : TaggedBody) (tag : ℕ) (row : List ℕ) (page : Option Page) → d.body ≡ tag ∷ row
+    → d.tag ≡ extension_tag → d.tag < 256 → are_bytes d.body ≡ true → length d.body ≤ 255 → extension_of tag ≡ page
+    → descr_read (shown_by (by_page page extension_groups_of row) d) ≡ Ok (d.tag, bits_of d.body)
+shown_by_extension laws d tag row None body id small is short found = generic_again laws d small is short
+shown_by_extension laws d tag row (Some p) body id small is short found =
+    go (read_paged p (extension_groups_of p.tag) (bits_of row)) refl
+  where
+    go : (read : Option (Page × Holding)) → read_paged p (extension_groups_of p.tag) (bits_of row) ≡ read → descr_read (shown_by read d) ≡ Ok (d.tag, bits_of d.body)
+    go None read = generic_again laws d small is short
+    go (Some x) read = extension_again laws d tag row p x body id short found read
+
+extension_shown : Laws → (d : TaggedBody) (body : List ℕ) → d.body ≡ body → d.tag ≡ extension_tag → d.tag < 256
+    → are_bytes d.body ≡ true → length d.body ≤ 255
+    → descr_read (shown_by (extension_typed body) d) ≡ Ok (d.tag, bits_of d.body)
+extension_shown laws d [] body id small is short = generic_again laws d small is short
+extension_shown laws d (tag ∷ row) body id small is short =
+    shown_by_extension laws d tag row (extension_of tag) body id small is short refl
 
 -- every descriptor that is shown is read again
 pub descr_again : Laws → (d : TaggedBody) → d.tag < 256 → are_bytes d.body ≡ true → length d.body ≤ 255
     → descr_read (descr_shown d) ≡ Ok (d.tag, bits_of d.body)
-descr_again laws d small is short = shown_by_page laws d (page_of d.tag) small is short refl
+descr_again laws d small is short = go (nat_eq d.tag extension_tag) refl
+  where
+    go : (b : Bool) → nat_eq d.tag extension_tag ≡ b → descr_read (shown_by (if b then extension_typed d.body else by_page (page_of d.tag) groups_of d.body) d) ≡ Ok (d.tag, bits_of d.body)
+    go true at = extension_shown laws d d.body refl (eqb-true d.tag extension_tag at) small is short
+    go false at = shown_by_page laws d (page_of d.tag) small is short refl

@@ -6,6 +6,8 @@ use Rattle.serde_json.specs.Written.{compact_text}
 use Rattle.ts_fields.specs.Bits.{bits, number_of}
 use Rattle.ts_fields.specs.Bodies.{read_page, read_after, read_items, read_loop}
 use Rattle.ts_fields.specs.Reading.{read_number, read_bytes, read_decimal, read_rest, read_field, read_rows}
+use Rattle.ts_groups.specs.Groups.{read_grouped}
+use Rattle.ts_shown_pages.specs.Extensions.{extensions}
 use Rattle.ts_shown_pages.specs.Pages.{second_quarter, third_quarter, last_quarter}
 use Rattle.ts_jtree.specs.declared.fault.JsonKind.TheVariants.{Missing, UnknownKey}
 use Rattle.ts_jtree.specs.Attributes.{attribute_of, number_attribute, read_attributes}
@@ -35,7 +37,7 @@ subtitling-row = refl
 
 -- a name that no descriptor has
 name-row : descr_read (object (member (codes "#name") (string (codes "cable")) no_members)) ≡ Err (fault_of (codes "#name") UnknownKey)
-unfolding descr_read name_of second_quarter third_quarter last_quarter
+unfolding descr_read name_of extensions second_quarter third_quarter last_quarter
 name-row = refl
 
 -- the first missing attribute, in the order of the rows and not of the keys
@@ -55,3 +57,21 @@ zeros-row : compact_text (descr_shown (record { tag = 0x49; body = 0x80 ∷ 0x47
     ≡ codes "{\"#name\":\"country_availability_descriptor\",\"#nodes\":[{\"#name\":\"country\",\"country_code\":\"GBR\"}],\"country_availability\":true,\"reserved\":0}"
 unfolding bits number_of read_number read_bytes read_decimal read_rest read_field read_rows read_page read_after read_items read_loop second_quarter third_quarter last_quarter shown_on_literals
 zeros-row = refl
+
+-- an extension descriptor, whose first byte says which
+extension-row : compact_text (descr_shown (record { tag = 0x7F; body = 0x06 ∷ 0x07 ∷ 0x65 ∷ 0x6E ∷ 0x67 ∷ [] }))
+    ≡ codes "{\"#name\":\"supplementary_audio_descriptor\",\"editorial_classification\":1,\"language_code\":\"eng\",\"language_code_present\":true,\"mix_type\":0,\"private_data\":\"\"}"
+unfolding bits number_of read_number read_bytes read_rest read_field read_rows read_page read_after read_grouped extensions shown_on_literals
+extension-row = refl
+
+-- one whose first byte is that of another descriptor's tag
+no-extension-row : compact_text (descr_shown (record { tag = 0x7F; body = 0x52 ∷ 0x07 ∷ [] }))
+    ≡ codes "{\"#name\":\"generic_descriptor\",\"data\":\"5207\",\"tag\":127}"
+unfolding bits number_of extensions shown_on_literals
+no-extension-row = refl
+
+-- and one without a byte
+empty-extension-row : compact_text (descr_shown (record { tag = 0x7F; body = [] }))
+    ≡ codes "{\"#name\":\"generic_descriptor\",\"data\":\"\",\"tag\":127}"
+unfolding shown_on_literals
+empty-extension-row = refl

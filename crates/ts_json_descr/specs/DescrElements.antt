@@ -1,8 +1,9 @@
 -- Descriptors as JSON elements.
 -- This project's own rule: a descriptor whose body reads by its tag's page is an element of the page's name,
 -- its fields attributes and its items children; every other one is a `generic_descriptor` of tag and bytes. Where the
--- first fields say which others are there, those that are there have attributes, and no others.
-use Rattle.std.specs.Prelude.{ℕ, Bool, List, [], ◌∷◌, map, codes, Option, Some, None, option_map, option_and_then}
+-- first fields say which others are there, those that are there have attributes, and no others. An extension descriptor
+-- has the page of its extension, which reads the bytes after descriptor_tag_extension (ETSI EN 300 468, 6.2.16).
+use Rattle.std.specs.Prelude.{ℕ, Bool, List, [], ◌∷◌, map, codes, nat_eq, if◌then◌else◌, Option, Some, None, option_map, option_and_then}
 use Rattle.serde_json.specs.Data.{Data, object, array}
 use Rattle.serde_json.specs.View.{items_of}
 use Rattle.ts_bits.specs.TaggedBody.{TaggedBody}
@@ -12,6 +13,7 @@ use Rattle.ts_fields.specs.Bodies.{Page, Holding, read_page}
 use Rattle.ts_fields.specs.Layout.{Row, Held, number, bytes}
 use Rattle.ts_groups.specs.Groups.{Group, read_grouped}
 use Rattle.ts_pages.specs.PageRows.{field}
+use Rattle.ts_shown_pages.specs.Extensions.{extension_groups_of, extension_of, extension_tag}
 use Rattle.ts_shown_pages.specs.Pages.{groups_of, page_of}
 use Rattle.ts_jtree.specs.Shown.{element_members}
 
@@ -51,9 +53,20 @@ abbrev pub read_paged : Page → Option (List Group) → List Bool → Option (P
 read_paged p None from = option_map (λ h. (p, h)) (read_page p from)
 read_paged p (Some groups) from = read_grouped p groups from
 
+-- the same of these bytes, by a page if there is one
+abbrev pub by_page : Option Page → (ℕ → Option (List Group)) → List ℕ → Option (Page × Holding)
+by_page p groups row = option_and_then (λ p. read_paged p (groups p.tag) (bits_of row)) p
+
+-- the same of the body of an extension descriptor
+abbrev pub extension_typed : List ℕ → Option (Page × Holding)
+extension_typed [] = None
+extension_typed (tag ∷ row) = by_page (extension_of tag) extension_groups_of row
+
 -- the same of a descriptor, by its tag
 abbrev pub typed : TaggedBody → Option (Page × Holding)
-typed d = option_and_then (λ p. read_paged p (groups_of p.tag) (bits_of d.body)) (page_of d.tag)
+typed d =
+    if nat_eq d.tag extension_tag then extension_typed d.body
+    else by_page (page_of d.tag) groups_of d.body
 
 -- the element of a descriptor by its page, or the generic one
 abbrev pub shown_by : Option (Page × Holding) → TaggedBody → Data

@@ -1,13 +1,15 @@
 -- Descriptors from JSON elements.
 -- This project's own rule: an element is checked step by step, and then its children in their order; a body
 -- of more than 255 bytes is checked last. Where the first fields say which others are there, their attributes are
--- read before all else: a key of a field that is not there is unknown.
-use Rattle.std.specs.Prelude.{ℕ, ◌+◌, ◌<◌, ◌≤◌, Bool, true, List, [], ◌∷◌, length, bytes_eq, nat_lt, if◌then◌else◌, Option, Some, None, Ok}
+-- read before all else: a key of a field that is not there is unknown. The name of an extension descriptor says its
+-- extension, whose tag is the first byte of its body (ETSI EN 300 468, 6.2.16).
+use Rattle.std.specs.Prelude.{ℕ, ◌+◌, ◌<◌, ◌≤◌, Bool, true, List, [], ◌∷◌, ◌++◌, length, bytes_eq, nat_lt, if◌then◌else◌, Option, Some, None, Ok}
 use Rattle.serde_json.specs.Data.{Data, Items, no_items, item, Members}
-use Rattle.ts_fields.specs.Bits.{bits_of}
+use Rattle.ts_fields.specs.Bits.{bits, bits_of}
 use Rattle.ts_fields.specs.Bodies.{Page, Holding, spell_page}
 use Rattle.ts_fields.specs.Layout.{Row, Held, number, bytes}
 use Rattle.ts_groups.specs.Groups.{Group, grouped_sound, page_with}
+use Rattle.ts_shown_pages.specs.Extensions.{extension_groups_of, extension_named, extension_tag}
 use Rattle.ts_shown_pages.specs.Pages.{groups_of, page_named}
 use Rattle.ts_jtree.specs.declared.fault.JsonKind.TheVariants.{UnknownKey, OutOfRange}
 use Rattle.ts_jtree.specs.Attributes.{read_attributes}
@@ -82,12 +84,23 @@ read_generic ms = do
   h ← read_holding generic_page ms
   tagged h.head
 
+-- the extension descriptor of an element of a page, if there is one
+abbrev pub read_extension : Option Page → Members → Reading (ℕ × List Bool)
+read_extension found ms = do
+  p ← or_refuse found name_key UnknownKey
+  x ← read_paged p (extension_groups_of p.tag) ms
+  sized extension_tag (bits 8 x.0 ++ x.1)
+
+-- the descriptor of an element whose name has this page; where it has none, that of the extension of its name
+abbrev pub read_found : Option Page → List ℕ → Members → Reading (ℕ × List Bool)
+read_found None name ms = read_extension (extension_named name) ms
+read_found (Some p) name ms = read_paged p (groups_of p.tag) ms
+
 -- the descriptor of an element of this name
 abbrev pub read_by_name : List ℕ → Members → Reading (ℕ × List Bool)
 read_by_name name ms =
-    if bytes_eq name generic_name then read_generic ms else (do
-      p ← or_refuse (page_named name) name_key UnknownKey
-      read_paged p (groups_of p.tag) ms)
+    if bytes_eq name generic_name then read_generic ms
+    else read_found (page_named name) name ms
 
 -- the tag and the bits of the body of a descriptor's element
 unfoldable pub descr_read : Data → Reading (ℕ × List Bool)

@@ -1,16 +1,17 @@
 //! Reading descriptors from JSON elements.
 
-ghost use Rattle.std.specs.Prelude.{◌≡◌, map, IsTrue, Some, option_map};
+ghost use Rattle.std.specs.Prelude.{◌≡◌, ◌++◌, map, IsTrue, Some, option_map};
 ghost use Rattle.serde_json.specs.View.{view, items_view, members_view};
-ghost use Rattle.ts_fields.specs.Bits.{bits_of};
+ghost use Rattle.ts_fields.specs.Bits.{bits, bits_of};
 ghost use Rattle.ts_fields.specs.Bodies.{page, page_sound, items_sound, body_held, item_held, item_page};
 ghost use Rattle.ts_fields.specs.Layout.{rows_of, held};
 ghost use Rattle.ts_fields.specs.SoundRows.{are_sound, rows_sound};
 ghost use Rattle.ts_groups.specs.Groups.{fields_alone, grouped_sound, groups_in, values_alone};
 ghost use Rattle.ts_jtree.specs.Faults.{Answers, at_child};
 ghost use Rattle.ts_json_descr.specs.DescrReading;
-ghost use Rattle.ts_json_descr.specs.DescrReading.{groups_sound, read_holding, read_by_name, descr_read, sized};
-ghost use Rattle.ts_shown_pages.specs.Pages;
+ghost use Rattle.ts_json_descr.specs.DescrReading.{groups_sound, read_extension, read_holding, read_by_name, descr_read, sized};
+ghost use Rattle.ts_shown_pages.specs.Extensions;
+ghost use Rattle.ts_shown_pages.specs.Extensions.{extension_tag};
 
 use crate::showing::GENERIC;
 use serde_json::{Map, Value};
@@ -22,7 +23,9 @@ use ts_jtree::{
     JsonKind, ReadRefusal, at_child, check_keys, children, element_name, members, no_children,
     read_attributes, read_element, refuse_key, values_are_shaped,
 };
-use ts_shown_pages::{groups_of, layout_named};
+use ts_shown_pages::{
+    EXTENSION_TAG, extension_groups_of, extension_named, groups_of, layout_named,
+};
 
 /// An item, which has no children itself.
 #[tactic(auto, unfolding(crate::specs::DescrReading::read_item))]
@@ -195,17 +198,44 @@ fn read_by_groups(
 fn read_paged(
     alloc: Global,
     layout: &Layout,
+    groups: Option<&[FieldGroup]>,
     members: &Map<String, Value>,
 ) -> Result<Descriptor, ReadRefusal>
     requires page { IsTrue (page_sound (page layout.now)) }
-    requires groups { IsTrue (groups_sound (page layout.now) (Pages.groups_of layout.now.tag)) }
+    requires groups { IsTrue (groups_sound (page layout.now) (option_map (λ g. groups_in g.now) groups)) }
     ensures { Answers (λ d. (d.tag, bits_of d.body)) result
-        (DescrReading.read_paged (page layout.now) (Pages.groups_of layout.now.tag) (members_view members.now.entries)) }
+        (DescrReading.read_paged (page layout.now) (option_map (λ g. groups_in g.now) groups.entry) (members_view members.now.entries)) }
 {
-    match groups_of(layout.tag) {
+    match groups {
         None => read_typed(alloc, layout, members),
         Some(groups) => read_by_groups(alloc, layout, groups, members),
     }
+}
+
+/// The extension descriptor of an extension's tag and the bytes after it.
+fn extended(alloc: Global, tag: u8, bytes: &[u8]) -> Result<Descriptor, ReadRefusal>
+    ensures { Answers (λ d. (d.tag, bits_of d.body)) result (sized extension_tag (bits 8 tag ++ bits_of bytes.now)) }
+{
+    let mut body = vec![in alloc; tag]?;
+    body.extend_from_slice(bytes)?;
+    sized_descr(alloc, EXTENSION_TAG, &body)
+}
+
+/// The descriptor of an element whose name may be that of an extension descriptor.
+fn read_extended(
+    alloc: Global,
+    name: &str,
+    members: &Map<String, Value>,
+) -> Result<Descriptor, ReadRefusal>
+    ensures { Answers (λ d. (d.tag, bits_of d.body)) result
+        (read_extension (Extensions.extension_named name.now) (members_view members.now.entries)) }
+{
+    let Some(layout) = extension_named(name) else {
+        return Err(refuse_key(alloc, "#name", JsonKind::UnknownKey));
+    };
+    let groups = extension_groups_of(layout.tag);
+    let inner = read_paged(alloc, layout, groups, members)?;
+    extended(alloc, inner.tag(), inner.body())
 }
 
 /// The descriptor with a tag and bytes.
@@ -242,8 +272,8 @@ fn read_named(
         return read_generic(alloc, members);
     }
     match layout_named(name) {
-        Some(layout) => read_paged(alloc, layout, members),
-        None => Err(refuse_key(alloc, "#name", JsonKind::UnknownKey)),
+        Some(layout) => read_paged(alloc, layout, groups_of(layout.tag), members),
+        None => read_extended(alloc, name, members),
     }
 }
 

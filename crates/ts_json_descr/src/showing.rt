@@ -1,14 +1,16 @@
 //! Showing descriptors as JSON elements.
 
-ghost use Rattle.std.specs.Prelude.{◌≡◌, ◌∷◌, [], map, option_map, true, None, Some, IfOk, IsTrue};
+ghost use Rattle.std.specs.Prelude.{◌≡◌, ◌≤◌, ◌∷◌, [], length, map, option_map, true, None, Some, IfOk, IsTrue};
 ghost use Rattle.serde_json.specs.View.{view};
 ghost use Rattle.ts_fields.specs.Bits.{bits_of};
 ghost use Rattle.ts_fields.specs.Bodies.{page, page_fits, page_sound, body_held, item_held, item_page, all_fit, items_fit};
 ghost use Rattle.ts_fields.specs.Fitting.{fits};
 ghost use Rattle.ts_fields.specs.Layout.{rows_of, held, number, bytes};
 ghost use Rattle.ts_groups.specs.Groups.{fields_alone, grouped_sound, groups_in, values_alone};
-ghost use Rattle.ts_json_descr.specs.DescrElements;
-ghost use Rattle.ts_json_descr.specs.DescrElements.{descr_shown, body_shown, item_shown, items_shown, generic_shown, shown_by};
+ghost use Rattle.ts_json_descr.specs.DescrElements.{descr_shown, body_shown, item_shown, items_shown, generic_shown, by_page, extension_typed, read_paged, typed};
+ghost use Rattle.ts_json_descr.specs.DescrReading.{groups_sound};
+ghost use Rattle.ts_shown_pages.specs.Extensions;
+ghost use Rattle.ts_shown_pages.specs.Pages;
 
 use serde_json::Value;
 use std::alloc::{AllocError, Global};
@@ -16,7 +18,7 @@ use ts_bits::Descriptor;
 use ts_fields::{Body, Field, FieldValue, Item, ItemLayout, Kind, Layout, NotRead, read_body};
 use ts_groups::{FieldGroup, GroupedBody, read_grouped};
 use ts_jtree::{element_json, fit_is_shown};
-use ts_shown_pages::{groups_of, layout_of};
+use ts_shown_pages::{EXTENSION_TAG, extension_groups_of, extension_of, groups_of, layout_of};
 
 /// The layout of a descriptor without a page: tag and bytes.
 pub static GENERIC: Layout = Layout {
@@ -41,47 +43,111 @@ pub static GENERIC: Layout = Layout {
 };
 
 /// The element that shows a descriptor: one with the name of its tag's page exactly where its body reads by that
-/// page, and else a `generic_descriptor`.
+/// page, and else a `generic_descriptor`. The page of an extension descriptor is that of its extension.
 pub fn descr_json(alloc: Global, from: &Descriptor) -> Result<Value, AllocError>
     ensures { IfOk result (λ v. view v ≡ descr_shown from.now) }
 {
-    let Some(layout) = layout_of(from.tag()) else {
-        return generic_json(alloc, from);
-    };
-    match groups_of(layout.tag) {
-        None => plain_json(alloc, layout, from),
-        Some(groups) => grouped_json(alloc, layout, groups, from),
+    match typed_json(alloc, from)? {
+        Some(value) => Ok(value),
+        None => generic_json(alloc, from),
     }
 }
 
-/// The element of a descriptor by a page whose fields are always the same.
-fn plain_json(alloc: Global, layout: &Layout, from: &Descriptor) -> Result<Value, AllocError>
-    requires { IsTrue (page_sound (page layout.now)) }
-    ensures { IfOk result (λ v. view v
-        ≡ shown_by (DescrElements.read_paged (page layout.now) None (bits_of from.now.body)) from.now) }
+/// The element of a descriptor by its page; `None` where it has none, or its page does not read it.
+fn typed_json(alloc: Global, from: &Descriptor) -> Result<Option<Value>, AllocError>
+    ensures { IfOk result (λ v. option_map view v ≡ option_map (λ x. body_shown x.0 x.1) (typed from.now)) }
 {
-    match read_body(alloc, layout, from.body()) {
-        Ok(body) => body_json(alloc, layout, &body),
-        Err(NotRead::NoMemory) => Err(AllocError),
-        Err(NotRead::Outside) => generic_json(alloc, from),
+    if from.tag() == EXTENSION_TAG {
+        return extension_json(alloc, from.body());
+    }
+    tagged_json(alloc, from.tag(), from.body())
+}
+
+/// The element of the body of a descriptor with this tag; `None` where its tag has no page, or its page does not read it.
+fn tagged_json(alloc: Global, tag: u8, body: &[u8]) -> Result<Option<Value>, AllocError>
+    requires { length body.now ≤ 255 }
+    ensures { IfOk result (λ v. option_map view v
+        ≡ option_map (λ x. body_shown x.0 x.1) (by_page (Pages.page_of tag) Pages.groups_of body.now)) }
+{
+    let Some(layout) = layout_of(tag) else {
+        return Ok(None);
+    };
+    paged_json(alloc, layout, groups_of(layout.tag), body)
+}
+
+/// The element of the body of an extension descriptor; `None` where it has no page, or its page does not read it.
+fn extension_json(alloc: Global, body: &[u8]) -> Result<Option<Value>, AllocError>
+    requires { length body.now ≤ 255 }
+    ensures { IfOk result (λ v. option_map view v
+        ≡ option_map (λ x. body_shown x.0 x.1) (extension_typed body.now)) }
+{
+    match body.split_first() {
+        Some((tag, rest)) => extended_json(alloc, *tag, rest),
+        None => Ok(None),
     }
 }
 
-/// The element of a descriptor by a page whose first fields say which others are there.
+/// The element of the bytes after this tag of an extension; `None` where it has no page, or its page does not read them.
+fn extended_json(alloc: Global, tag: u8, rest: &[u8]) -> Result<Option<Value>, AllocError>
+    requires { length rest.now ≤ 255 }
+    ensures { IfOk result (λ v. option_map view v
+        ≡ option_map (λ x. body_shown x.0 x.1) (by_page (Extensions.extension_of tag) Extensions.extension_groups_of rest.now)) }
+{
+    let Some(layout) = extension_of(tag) else {
+        return Ok(None);
+    };
+    paged_json(alloc, layout, extension_groups_of(layout.tag), rest)
+}
+
+/// The element of a body by a page, with groups or without; `None` where the page does not read it.
+fn paged_json(
+    alloc: Global,
+    layout: &Layout,
+    groups: Option<&[FieldGroup]>,
+    body: &[u8],
+) -> Result<Option<Value>, AllocError>
+    requires room { length body.now ≤ 255 }
+    requires page { IsTrue (page_sound (page layout.now)) }
+    requires groups { IsTrue (groups_sound (page layout.now) (option_map (λ g. groups_in g.now) groups)) }
+    ensures { IfOk result (λ v. option_map view v ≡ option_map (λ x. body_shown x.0 x.1)
+        (read_paged (page layout.now) (option_map (λ g. groups_in g.now) groups.entry) (bits_of body.now))) }
+{
+    match groups {
+        None => plain_json(alloc, layout, body),
+        Some(groups) => grouped_json(alloc, layout, groups, body),
+    }
+}
+
+/// The element of a body by a page whose fields are always the same; `None` where the page does not read it.
+fn plain_json(alloc: Global, layout: &Layout, body: &[u8]) -> Result<Option<Value>, AllocError>
+    requires room { length body.now ≤ 255 }
+    requires page { IsTrue (page_sound (page layout.now)) }
+    ensures { IfOk result (λ v. option_map view v
+        ≡ option_map (λ x. body_shown x.0 x.1) (read_paged (page layout.now) None (bits_of body.now))) }
+{
+    match read_body(alloc, layout, body) {
+        Ok(body) => Ok(Some(body_json(alloc, layout, &body)?)),
+        Err(NotRead::NoMemory) => Err(AllocError),
+        Err(NotRead::Outside) => Ok(None),
+    }
+}
+
+/// The element of a body by a page whose first fields say which others are there; `None` where the page does not read it.
 fn grouped_json(
     alloc: Global,
     layout: &Layout,
     groups: &[FieldGroup],
-    from: &Descriptor,
-) -> Result<Value, AllocError>
-    requires { IsTrue (grouped_sound (page layout.now) (groups_in groups.now)) }
-    ensures { IfOk result (λ v. view v
-        ≡ shown_by (DescrElements.read_paged (page layout.now) (Some (groups_in groups.now)) (bits_of from.now.body)) from.now) }
+    body: &[u8],
+) -> Result<Option<Value>, AllocError>
+    requires room { length body.now ≤ 255 }
+    requires groups { IsTrue (grouped_sound (page layout.now) (groups_in groups.now)) }
+    ensures { IfOk result (λ v. option_map view v ≡ option_map (λ x. body_shown x.0 x.1)
+        (read_paged (page layout.now) (Some (groups_in groups.now)) (bits_of body.now))) }
 {
-    match read_grouped(alloc, layout, groups, from.body()) {
-        Ok(body) => alone_json(alloc, layout, &body),
+    match read_grouped(alloc, layout, groups, body) {
+        Ok(body) => Ok(Some(alone_json(alloc, layout, &body)?)),
         Err(NotRead::NoMemory) => Err(AllocError),
-        Err(NotRead::Outside) => generic_json(alloc, from),
+        Err(NotRead::Outside) => Ok(None),
     }
 }
 

@@ -7,6 +7,7 @@ use Rattle.ts_jtree.specs.Elements.{is_known}
 use Rattle.ts_jtree.specs.Shown.{are_within, rows_show}
 use Rattle.ts_fields.specs.Fitting.{fits}
 use Rattle.ts_fields.specs.Layout.{Row, Held, number, bytes}
+use Rattle.ts_shown_pages.specs.Extensions.{extension_named, extensions}
 use Rattle.ts_shown_pages.specs.Pages as descrs
 use Rattle.ts_shown_pages.specs.Pages.{second_quarter, third_quarter, last_quarter}
 use Rattle.ts_json_descr.specs.DescrElements.{generic_name}
@@ -31,6 +32,7 @@ pub record ItemFacts (i : ItemPage) : Type 0 where
   pub shows : rows_show i.rows ≡ true
   pub own : bytes_eq i.name generic_name ≡ false
   pub other : descrs.page_named i.name ≡ None
+  pub apart : extension_named i.name ≡ None
 
 abbrev pub ItemsFacts : Option ItemPage → Type 0
 ItemsFacts None = Unit {0}
@@ -165,7 +167,7 @@ pub record Facts (p : TablePage) : Type 0 where
   pub free : p.one_zero ≡ false → ItemsBare p.items
 
 pat_facts : Facts pat_page
-unfolding second_quarter third_quarter last_quarter
+unfolding extensions second_quarter third_quarter last_quarter
 pat_facts = record {
   sound = refl;
   named = refl;
@@ -174,7 +176,7 @@ pat_facts = record {
   shows = λ network. elim network as (λ b. rows_show (element_rows pat_page b) ≡ true) [ true ↦ refl | false ↦ refl ];
   bare = λ network. elim network as (λ b. plain (rows_after pat_page b) ≡ true) [ true ↦ refl | false ↦ refl ];
   unknown = λ ms. refl;
-  items = record { shows = refl; own = refl; other = refl };
+  items = record { shows = refl; own = refl; other = refl; apart = refl };
   zero = λ is. refl;
   ids = one_id 0x00 (omega arith);
   ids_again = λ ms id is read. one_again 0x00 ms id is;
@@ -185,7 +187,7 @@ pat_facts = record {
 }
 
 cat_facts : Facts cat_page
-unfolding second_quarter third_quarter last_quarter
+unfolding extensions second_quarter third_quarter last_quarter
 cat_facts = record {
   sound = refl;
   named = refl;
@@ -205,7 +207,7 @@ cat_facts = record {
 }
 
 pmt_facts : Facts pmt_page
-unfolding second_quarter third_quarter last_quarter
+unfolding extensions second_quarter third_quarter last_quarter
 pmt_facts = record {
   sound = refl;
   named = refl;
@@ -214,7 +216,7 @@ pmt_facts = record {
   shows = λ network. elim network as (λ b. rows_show (element_rows pmt_page b) ≡ true) [ true ↦ refl | false ↦ refl ];
   bare = λ network. elim network as (λ b. plain (rows_after pmt_page b) ≡ true) [ true ↦ refl | false ↦ refl ];
   unknown = λ ms. refl;
-  items = record { shows = refl; own = refl; other = refl };
+  items = record { shows = refl; own = refl; other = refl; apart = refl };
   zero = λ is. cc;
   ids = one_id 0x02 (omega arith);
   ids_again = λ ms id is read. one_again 0x02 ms id is;
@@ -225,7 +227,7 @@ pmt_facts = record {
 }
 
 nit_facts : Facts nit_page
-unfolding second_quarter third_quarter last_quarter
+unfolding extensions second_quarter third_quarter last_quarter
 nit_facts = record {
   sound = refl;
   named = refl;
@@ -234,7 +236,7 @@ nit_facts = record {
   shows = λ network. elim network as (λ b. rows_show (element_rows nit_page b) ≡ true) [ true ↦ refl | false ↦ refl ];
   bare = λ network. elim network as (λ b. plain (rows_after nit_page b) ≡ true) [ true ↦ refl | false ↦ refl ];
   unknown = λ ms. refl;
-  items = record { shows = refl; own = refl; other = refl };
+  items = record { shows = refl; own = refl; other = refl; apart = refl };
   zero = λ is. cc;
   ids = two_ids 0x40 0x41 (omega arith) (omega arith);
   ids_again = two_again 0x40 0x41;
@@ -245,7 +247,7 @@ nit_facts = record {
 }
 
 bat_facts : Facts bat_page
-unfolding second_quarter third_quarter last_quarter
+unfolding extensions second_quarter third_quarter last_quarter
 bat_facts = record {
   sound = refl;
   named = refl;
@@ -254,7 +256,7 @@ bat_facts = record {
   shows = λ network. elim network as (λ b. rows_show (element_rows bat_page b) ≡ true) [ true ↦ refl | false ↦ refl ];
   bare = λ network. elim network as (λ b. plain (rows_after bat_page b) ≡ true) [ true ↦ refl | false ↦ refl ];
   unknown = λ ms. refl;
-  items = record { shows = refl; own = refl; other = refl };
+  items = record { shows = refl; own = refl; other = refl; apart = refl };
   zero = λ is. cc;
   ids = one_id 0x4A (omega arith);
   ids_again = λ ms id is read. one_again 0x4A ms id is;
@@ -265,7 +267,7 @@ bat_facts = record {
 }
 
 sdt_facts : Facts sdt_page
-unfolding second_quarter third_quarter last_quarter
+unfolding extensions second_quarter third_quarter last_quarter
 sdt_facts = record {
   sound = refl;
   named = refl;
@@ -274,7 +276,7 @@ sdt_facts = record {
   shows = λ network. elim network as (λ b. rows_show (element_rows sdt_page b) ≡ true) [ true ↦ refl | false ↦ refl ];
   bare = λ network. elim network as (λ b. plain (rows_after sdt_page b) ≡ true) [ true ↦ refl | false ↦ refl ];
   unknown = λ ms. refl;
-  items = record { shows = refl; own = refl; other = refl };
+  items = record { shows = refl; own = refl; other = refl; apart = refl };
   zero = λ is. cc;
   ids = two_ids 0x42 0x46 (omega arith) (omega arith);
   ids_again = two_again 0x42 0x46;
@@ -285,7 +287,7 @@ sdt_facts = record {
 }
 
 eit_facts : Facts eit_page
-unfolding second_quarter third_quarter last_quarter
+unfolding extensions second_quarter third_quarter last_quarter
 eit_facts = record {
   sound = refl;
   named = refl;
@@ -294,7 +296,7 @@ eit_facts = record {
   shows = λ network. elim network as (λ b. rows_show (element_rows eit_page b) ≡ true) [ true ↦ refl | false ↦ refl ];
   bare = λ network. elim network as (λ b. plain (rows_after eit_page b) ≡ true) [ true ↦ refl | false ↦ refl ];
   unknown = λ ms. refl;
-  items = record { shows = refl; own = refl; other = refl };
+  items = record { shows = refl; own = refl; other = refl; apart = refl };
   zero = λ is. cc;
   ids = range_ids 0x4E 0x6F refl (omega arith);
   ids_again = λ ms id is read. range_again 0x4E 0x6F refl ms id read;

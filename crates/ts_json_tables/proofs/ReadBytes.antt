@@ -12,18 +12,19 @@ use Rattle.serde_json.specs.Data.{Data, Items, Members, item, no_items}
 use Rattle.serde_json.specs.Find.{as_str, get_member}
 use Rattle.ts_bits.specs.TaggedBody.{IsDescriptor, TaggedBody}
 use Rattle.ts_fields.specs.declared.field.Kind.TheVariants.{Hex}
-use Rattle.ts_fields.specs.Bits.{bits_of}
+use Rattle.ts_fields.specs.Bits.{bits, bits_of}
 use Rattle.ts_fields.specs.Bodies.{Holding, Page, spell_page}
 use Rattle.ts_fields.specs.Fitting.{are_bytes}
 use Rattle.ts_fields.specs.Layout.{Held, Row, bytes, number}
-use Rattle.ts_jtree.specs.declared.fault.JsonKind.TheVariants.{OutOfRange, UnknownKey, WrongKind}
+use Rattle.ts_jtree.specs.declared.fault.JsonKind.TheVariants.{OutOfRange, WrongKind}
 use Rattle.ts_jtree.specs.Attributes.{attribute_of, data_attribute, hex_at, hex_attribute, holds_bytes, holds_number, number_attribute, ok_part, read_attributes}
 use Rattle.ts_jtree.specs.Elements.{keys_known, members_of, name_key, name_of, named, no_children, nodes_of}
 use Rattle.ts_jtree.specs.Faults.{Reading, at_child, or_refuse, refuse, ◌>>=◌}
 use Rattle.ts_json_descr.specs.DescrElements.{generic_name, generic_page, generic_rows}
 use Rattle.ts_json_descr.specs.DescrReading as descrs
-use Rattle.ts_json_descr.specs.DescrReading.{descr_read, read_generic, read_holding, read_paged, read_typed, tagged}
+use Rattle.ts_json_descr.specs.DescrReading.{descr_read, read_extension, read_found, read_generic, read_holding, read_paged, read_typed, tagged}
 use Rattle.ts_groups.specs.Groups.{Group, page_with}
+use Rattle.ts_shown_pages.specs.Extensions.{extension_groups_of, extension_named, extension_tag}
 use Rattle.ts_shown_pages.specs.Pages as descr_pages
 use Rattle.ts_shown_pages.specs.Pages.{second_quarter, third_quarter, last_quarter}
 use Rattle.ts_table_rows.specs.BodySpelling.{bytes_of}
@@ -204,6 +205,14 @@ paged_sized p None ms y small is = typed_sized p ms y small is
 paged_sized p (Some groups) ms y small is =
     then_ok (read_attributes p.head ms) _ y is (λ first was later. typed_sized (page_with p groups first) ms y small later)
 
+-- an extension descriptor, whichever its page
+extension_sized : (o : Option Page) (ms : Members) (y : ℕ × List Bool) → read_extension o ms ≡ Ok y → IsSized y
+extension_sized None ms y is = cc
+extension_sized (Some p) ms y is =
+    then_ok (read_paged p (extension_groups_of p.tag) ms) _ y is (λ x was later.
+    let body = bits 8 x.0 ++ x.1 in
+    sized_by (nat_lt 2040 (length body)) extension_tag body y refl (omega arith) later)
+
 -- the row of the bytes of a generic element
 abbrev generic_data : Row
 generic_data = record { name = codes "data"; kind = Hex; absent = None; range = Some (0, 255) }
@@ -245,12 +254,12 @@ descr_sized law value y is =
     then_ok (members_of value) _ y is (λ ms a1 b1.
     then_ok (name_of ms) _ y b1 (λ name a2 b2. by_name ms name (bytes_eq name generic_name) b2))
   where
-    typed : (ms : Members) (name : List ℕ) (o : Option Page) → descr_pages.page_named name ≡ o → (or_refuse o name_key UnknownKey >>= λ p. read_paged p (descr_pages.groups_of p.tag) ms) ≡ Ok y → IsSized y
-    typed ms name None at read = cc
+    typed : (ms : Members) (name : List ℕ) (o : Option Page) → descr_pages.page_named name ≡ o → read_found o name ms ≡ Ok y → IsSized y
+    typed ms name None at read = extension_sized (extension_named name) ms y read
     typed ms name (Some p) at read =
         paged_sized p (descr_pages.groups_of p.tag) ms y (found_small (λ q. bytes_eq name q.name) descr_pages.pages p tags_small at) read
 
-    by_name : (ms : Members) (name : List ℕ) (b : Bool) → (if b then read_generic ms else (or_refuse (descr_pages.page_named name) name_key UnknownKey >>= λ p. read_paged p (descr_pages.groups_of p.tag) ms)) ≡ Ok y → IsSized y
+    by_name : (ms : Members) (name : List ℕ) (b : Bool) → (if b then read_generic ms else read_found (descr_pages.page_named name) name ms) ≡ Ok y → IsSized y
     by_name ms name true read = generic_sized law ms y read
     by_name ms name false read = typed ms name (descr_pages.page_named name) refl read
 

@@ -9,13 +9,13 @@ use Rattle.serde_json.specs.View.{items_of}
 use Rattle.ts_bits.specs.TaggedBody.{TaggedBody, IsDescriptor}
 use Rattle.ts_fields.specs.Bits.{bits_of}
 use Rattle.ts_fields.specs.Fitting.{fits}
-use Rattle.ts_jtree.specs.declared.fault.JsonKind.TheVariants.{UnknownKey}
-use Rattle.ts_jtree.specs.Elements.{members_of, name_key, name_of, nodes_at, nodes_of, no_children}
-use Rattle.ts_jtree.specs.Faults.{Reading, or_refuse, ◌>>=◌}
+use Rattle.ts_jtree.specs.Elements.{members_of, name_of, nodes_at, nodes_of, no_children}
+use Rattle.ts_jtree.specs.Faults.{Reading, ◌>>=◌}
 use Rattle.ts_jtree.specs.Shown.{are_within, element_members, rows_show}
+use Rattle.ts_shown_pages.specs.Extensions.{extension_named}
 use Rattle.ts_shown_pages.specs.Pages as descrs
 use Rattle.ts_json_descr.specs.DescrElements.{descr_shown, generic_name}
-use Rattle.ts_json_descr.specs.DescrReading.{descr_read, read_generic, read_paged}
+use Rattle.ts_json_descr.specs.DescrReading.{descr_read, read_by_name, read_extension}
 use Rattle.ts_table_rows.specs.TableFitting.{item_fits, items_fit, none_there}
 use Rattle.ts_table_rows.specs.TablePages.{ItemPage, TablePage}
 use Rattle.ts_table_rows.specs.TableSections.{own_thing, item_thing, items_in, owns_in}
@@ -81,7 +81,7 @@ record Called (value : Data) (y : ℕ × List Bool) : Type 0 where
   called : List ℕ
   object : members_of value ≡ Ok ms
   named : name_of ms ≡ Ok called
-  whole : (if bytes_eq called generic_name then read_generic ms else (or_refuse (descrs.page_named called) name_key UnknownKey >>= λ p. read_paged p (descrs.groups_of p.tag) ms)) ≡ Ok y
+  whole : read_by_name called ms ≡ Ok y
 
 called_of : (value : Data) (y : ℕ × List Bool) → descr_read value ≡ Ok y → Called value y
 unfolding descr_read
@@ -92,19 +92,18 @@ called_of value y is =
 
 -- its name is not an item's
 other_by : (b : Bool) (ms : Members) (name called : List ℕ) (y : ℕ × List Bool) → bytes_eq called name ≡ b
-    → bytes_eq name generic_name ≡ false → descrs.page_named name ≡ None
-    → (if bytes_eq called generic_name then read_generic ms else (or_refuse (descrs.page_named called) name_key UnknownKey >>= λ p. read_paged p (descrs.groups_of p.tag) ms)) ≡ Ok y
-    → bytes_eq called name ≡ false
-other_by false ms name called y at own none is = at
-other_by true ms name called y at own none is =
+    → bytes_eq name generic_name ≡ false → descrs.page_named name ≡ None → extension_named name ≡ None
+    → read_by_name called ms ≡ Ok y → bytes_eq called name ≡ false
+other_by false ms name called y at own none apart is = at
+other_by true ms name called y at own none apart is =
     let same : called ≡ name = (bytes_eq-Decides called name).0 at in
-    absurd (never (subst (λ n. (if bytes_eq n generic_name then read_generic ms else (or_refuse (descrs.page_named n) name_key UnknownKey >>= λ p. read_paged p (descrs.groups_of p.tag) ms)) ≡ Ok y) same is))
+    absurd (never (subst (λ n. read_by_name n ms ≡ Ok y) same is))
   where
-    refused : ◌≡◌ {A = Reading (ℕ × List Bool)} (or_refuse None name_key UnknownKey) (Ok y) → ⊥
+    refused : read_extension None ms ≡ Ok y → ⊥
     refused read = cc
 
-    never : (if bytes_eq name generic_name then read_generic ms else (or_refuse (descrs.page_named name) name_key UnknownKey >>= λ p. read_paged p (descrs.groups_of p.tag) ms)) ≡ Ok y → ⊥
-    never read = refused (rw (own, none) at read)
+    never : read_by_name name ms ≡ Ok y → ⊥
+    never read = refused (rw (own, none, apart) at read)
 
 own_again : Laws → (i : Option ItemPage) (d : TaggedBody) (ms : Members) (name : List ℕ) → IsDescriptor d
     → ((j : ItemPage) → i ≡ Some j → bytes_eq name j.name ≡ false)
@@ -121,7 +120,7 @@ child_own laws p d facts own s =
     let c = called_of (descr_shown d) y (laws.descr d s.tag (all_bytes d.body s.bytes) s.room) in
     rw (c.object, c.named, own) (own_again laws p.items d c.ms c.called s (λ j at.
     let f = subst ItemsFacts at facts in
-    other_by (bytes_eq c.called j.name) c.ms j.name c.called y refl f.own f.other c.whole))
+    other_by (bytes_eq c.called j.name) c.ms j.name c.called y refl f.own f.other f.apart c.whole))
 
 owns_again : Laws → (p : TablePage) (ds : List TaggedBody) → ItemsFacts p.items → (none_there ds ≡ false → has_own p.loop_form ≡ true)
     → All (λ d. IsDescriptor d) ds → AllRead (read_child p) (descrs_shown ds) (map own_thing ds)

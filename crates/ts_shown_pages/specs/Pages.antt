@@ -1,6 +1,6 @@
 -- The pages of all descriptors that JSON shows by their fields. Written by tools/pages from pages.txt.
--- ISO/IEC 13818-1, 2.6, and ETSI EN 300 468, 6.2. All other tags have no page. The list is in four parts, since no proof goes
--- through one of all.
+-- ISO/IEC 13818-1, 2.6, and ETSI EN 300 468, 6.2. All other tags have no page; extension descriptors have theirs by another
+-- list. The list is in four parts, since no proof goes through one of all.
 use Rattle.std.specs.Prelude.{ℕ, List, [], ◌∷◌, nat_eq, bytes_eq, Option, option_map}
 use Rattle.std.specs.List.{find}
 use Rattle.ts_fields.specs.Bodies.{Page}

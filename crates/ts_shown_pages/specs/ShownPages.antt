@@ -545,6 +545,104 @@ fta_content_management = of_fields 0x7E (codes "FTA_content_management_descripto
     ∷ field (codes "do_not_apply_revocation") Flag
     ∷ [])
 
+-- ETSI EN 300 468, 6.4.6.3: how DVB-T2 carries a transport stream
+abbrev pub t2_delivery_system : Page
+t2_delivery_system = of_fields 0x04 (codes "T2_delivery_system_descriptor") (
+    field (codes "plp_id") (Number 8)
+    ∷ field (codes "T2_system_id") (Number 16)
+    ∷ field (codes "T2_data") Hex
+    ∷ [])
+
+-- ETSI EN 300 468, 6.4.11: what an audio component adds to a programme
+abbrev pub supplementary_audio : Page
+supplementary_audio = of_fields 0x06 (codes "supplementary_audio_descriptor") (
+    field (codes "mix_type") (Number 1)
+    ∷ field (codes "editorial_classification") (Number 5)
+    ∷ field (codes "reserved") (Reserved 1)
+    ∷ false_if_absent (codes "language_code_present")
+    ∷ [])
+
+-- the fields of the supplementary_audio_descriptor by what its first fields say
+abbrev pub supplementary_audio_groups : List Group
+supplementary_audio_groups =
+    by_value 3 (1 ∷ []) (
+    field (codes "language_code") Language
+    ∷ [])
+    ∷ always (
+    field (codes "private_data") Hex
+    ∷ [])
+    ∷ []
+
+-- ETSI EN 300 468, 6.4.7: a text for viewers, by its number
+abbrev pub message : Page
+message = of_fields 0x08 (codes "message_descriptor") (
+    field (codes "message_id") (Number 8)
+    ∷ field (codes "language_code") Language
+    ∷ field (codes "text") Text
+    ∷ [])
+
+-- ETSI EN 300 468, 6.4.6.1: how DVB-C2 carries a transport stream
+abbrev pub c2_delivery_system : Page
+c2_delivery_system = of_fields 0x0D (codes "C2_delivery_system_descriptor") (
+    field (codes "plp_id") (Number 8)
+    ∷ field (codes "data_slice_id") (Number 8)
+    ∷ field (codes "C2_system_tuning_frequency") (Number 32)
+    ∷ field (codes "C2_system_tuning_frequency_type") (Number 2)
+    ∷ field (codes "active_OFDM_symbol_duration") (Number 3)
+    ∷ field (codes "guard_interval") (Number 3)
+    ∷ [])
+
+-- ETSI EN 300 468, 6.4.16: where a resource on the internet is
+abbrev pub uri_linkage : Page
+uri_linkage = of_fields 0x13 (codes "URI_linkage_descriptor") (
+    field (codes "uri_linkage_type") (Number 8)
+    ∷ field (codes "uri") CountedText
+    ∷ [])
+
+-- the fields of the URI_linkage_descriptor by what its first fields say
+abbrev pub uri_linkage_groups : List Group
+uri_linkage_groups =
+    by_value 0 (0 ∷ 1 ∷ []) (
+    field (codes "min_polling_interval") (Number 16)
+    ∷ [])
+    ∷ always (
+    field (codes "private_data") Hex
+    ∷ [])
+    ∷ []
+
+-- ETSI EN 300 468, D.7: what an AC-4 audio component is
+abbrev pub ac4 : Page
+ac4 = of_fields 0x15 (codes "AC4_descriptor") (
+    false_if_absent (codes "ac4_config_flag")
+    ∷ false_if_absent (codes "ac4_toc_flag")
+    ∷ field (codes "reserved") (Zeros 6)
+    ∷ [])
+
+-- the fields of the AC4_descriptor by what its first fields say
+abbrev pub ac4_groups : List Group
+ac4_groups =
+    by_value 0 (1 ∷ []) (
+    field (codes "ac4_dialog_enhancement_enabled") Flag
+    ∷ field (codes "ac4_channel_mode") (Number 2)
+    ∷ field (codes "reserved_2") (Zeros 5)
+    ∷ [])
+    ∷ by_value 1 (1 ∷ []) (
+    field (codes "ac4_dsi") CountedHex
+    ∷ [])
+    ∷ always (
+    field (codes "additional_info") Hex
+    ∷ [])
+    ∷ []
+
+-- ETSI EN 303 560, 5.2.1.1: what a component of subtitles in TTML is
+abbrev pub ttml_subtitling : Page
+ttml_subtitling = of_fields 0x20 (codes "TTML_subtitling_descriptor") (
+    field (codes "language_code") Language
+    ∷ field (codes "subtitle_purpose") (Number 6)
+    ∷ field (codes "TTS_suitability") (Number 2)
+    ∷ field (codes "TTML_data") Hex
+    ∷ [])
+
 -- EACEM TR-030: the numbers under which a receiver lists services
 abbrev pub logical_channel : Page
 logical_channel = of_items 0x83 (codes "logical_channel_descriptor") (codes "service") (

@@ -1,8 +1,11 @@
 //! The pages by which JSON shows descriptors. A tag or a name comes in; the page goes out. The layer above rests on
-//! `layout_of`, `layout_named` and `groups_of`, which are the pages and their groups of `specs/Pages.antt`.
+//! `layout_of`, `layout_named` and `groups_of`, which are the pages and their groups of `specs/Pages.antt`, and on
+//! `extension_of`, `extension_named` and `extension_groups_of`, those of the extension descriptors of `specs/Extensions.antt`.
 #![tactic(auto)]
 
+mod extensions;
 mod pages;
 pub mod shown;
 
+pub use extensions::{EXTENSION_TAG, extension_groups_of, extension_named, extension_of};
 pub use pages::{groups_of, layout_named, layout_of};

@@ -1119,6 +1119,204 @@ pub static FTA_CONTENT_MANAGEMENT: Layout = Layout {
     counted: None,
 };
 
+/// How DVB-T2 carries a transport stream (ETSI EN 300 468, 6.4.6.3).
+pub static T2_DELIVERY_SYSTEM: Layout = Layout {
+    tag: 0x04,
+    name: "T2_delivery_system_descriptor",
+    head: rows! {
+        "plp_id" Number(8);
+        "T2_system_id" Number(16);
+        "T2_data" Hex;
+    },
+    items: None,
+    counted: None,
+};
+
+/// What an audio component adds to a programme (ETSI EN 300 468, 6.4.11).
+pub static SUPPLEMENTARY_AUDIO: Layout = Layout {
+    tag: 0x06,
+    name: "supplementary_audio_descriptor",
+    head: &[
+        Field {
+            name: "mix_type",
+            kind: Kind::Number(1),
+            absent: None,
+            range: None,
+        },
+        Field {
+            name: "editorial_classification",
+            kind: Kind::Number(5),
+            absent: None,
+            range: None,
+        },
+        Field {
+            name: "reserved",
+            kind: Kind::Reserved(1),
+            absent: None,
+            range: None,
+        },
+        Field {
+            name: "language_code_present",
+            kind: Kind::Flag,
+            absent: Some(0),
+            range: None,
+        },
+    ],
+    items: None,
+    counted: None,
+};
+
+/// The fields of the supplementary_audio_descriptor by what its first fields say (ETSI EN 300 468, 6.4.11).
+pub static SUPPLEMENTARY_AUDIO_GROUPS: &[FieldGroup] = &[
+    FieldGroup {
+        when: Some(Condition {
+            place: 3,
+            values: &[1],
+        }),
+        rows: rows! {
+            "language_code" Language;
+        },
+    },
+    FieldGroup {
+        when: None,
+        rows: rows! {
+            "private_data" Hex;
+        },
+    },
+];
+
+/// A text for viewers, by its number (ETSI EN 300 468, 6.4.7).
+pub static MESSAGE: Layout = Layout {
+    tag: 0x08,
+    name: "message_descriptor",
+    head: rows! {
+        "message_id" Number(8);
+        "language_code" Language;
+        "text" Text;
+    },
+    items: None,
+    counted: None,
+};
+
+/// How DVB-C2 carries a transport stream (ETSI EN 300 468, 6.4.6.1).
+pub static C2_DELIVERY_SYSTEM: Layout = Layout {
+    tag: 0x0D,
+    name: "C2_delivery_system_descriptor",
+    head: rows! {
+        "plp_id" Number(8);
+        "data_slice_id" Number(8);
+        "C2_system_tuning_frequency" Number(32);
+        "C2_system_tuning_frequency_type" Number(2);
+        "active_OFDM_symbol_duration" Number(3);
+        "guard_interval" Number(3);
+    },
+    items: None,
+    counted: None,
+};
+
+/// Where a resource on the internet is (ETSI EN 300 468, 6.4.16).
+pub static URI_LINKAGE: Layout = Layout {
+    tag: 0x13,
+    name: "URI_linkage_descriptor",
+    head: rows! {
+        "uri_linkage_type" Number(8);
+        "uri" CountedText;
+    },
+    items: None,
+    counted: None,
+};
+
+/// The fields of the URI_linkage_descriptor by what its first fields say (ETSI EN 300 468, 6.4.16).
+pub static URI_LINKAGE_GROUPS: &[FieldGroup] = &[
+    FieldGroup {
+        when: Some(Condition {
+            place: 0,
+            values: &[0, 1],
+        }),
+        rows: rows! {
+            "min_polling_interval" Number(16);
+        },
+    },
+    FieldGroup {
+        when: None,
+        rows: rows! {
+            "private_data" Hex;
+        },
+    },
+];
+
+/// What an AC-4 audio component is (ETSI EN 300 468, D.7).
+pub static AC4: Layout = Layout {
+    tag: 0x15,
+    name: "AC4_descriptor",
+    head: &[
+        Field {
+            name: "ac4_config_flag",
+            kind: Kind::Flag,
+            absent: Some(0),
+            range: None,
+        },
+        Field {
+            name: "ac4_toc_flag",
+            kind: Kind::Flag,
+            absent: Some(0),
+            range: None,
+        },
+        Field {
+            name: "reserved",
+            kind: Kind::Zeros(6),
+            absent: None,
+            range: None,
+        },
+    ],
+    items: None,
+    counted: None,
+};
+
+/// The fields of the AC4_descriptor by what its first fields say (ETSI EN 300 468, D.7).
+pub static AC4_GROUPS: &[FieldGroup] = &[
+    FieldGroup {
+        when: Some(Condition {
+            place: 0,
+            values: &[1],
+        }),
+        rows: rows! {
+            "ac4_dialog_enhancement_enabled" Flag;
+            "ac4_channel_mode" Number(2);
+            "reserved_2" Zeros(5);
+        },
+    },
+    FieldGroup {
+        when: Some(Condition {
+            place: 1,
+            values: &[1],
+        }),
+        rows: rows! {
+            "ac4_dsi" CountedHex;
+        },
+    },
+    FieldGroup {
+        when: None,
+        rows: rows! {
+            "additional_info" Hex;
+        },
+    },
+];
+
+/// What a component of subtitles in TTML is (ETSI EN 303 560, 5.2.1.1).
+pub static TTML_SUBTITLING: Layout = Layout {
+    tag: 0x20,
+    name: "TTML_subtitling_descriptor",
+    head: rows! {
+        "language_code" Language;
+        "subtitle_purpose" Number(6);
+        "TTS_suitability" Number(2);
+        "TTML_data" Hex;
+    },
+    items: None,
+    counted: None,
+};
+
 /// The numbers under which a receiver lists services (EACEM TR-030).
 pub static LOGICAL_CHANNEL: Layout = Layout {
     tag: 0x83,

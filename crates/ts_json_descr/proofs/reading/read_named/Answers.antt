@@ -1,8 +1,10 @@
-use Rattle.std.proofs.Common.{sym}
+use Rattle.std.proofs.Common.{ap, sym, ◌∙◌}
 use Rattle.ts_fields.specs.Bodies.{page}
+use Rattle.ts_json_descr.specs.DescrReading.{groups_sound}
 use Rattle.ts_json_descr.proofs.PageLemmas.{groups_by_name}
 use Rattle.ts_json_descr.proofs.reading.read_named.Goals as goal
 
 pub read_paged-requires-clause-groups : goal.read_paged-requires-clause-groups
 read_paged-requires-clause-groups c =
-    groups_by_name c.args.name.now (page c.in-Some.layout.now) (sym c.in-Some.ensures.page)
+    ap (groups_sound (page c.in-Some.layout.now)) c.groups_of.ensures
+    ∙ groups_by_name c.args.name.now (page c.in-Some.layout.now) (sym c.in-Some.ensures.page)
