@@ -1,0 +1,4 @@
+pub mod Giving
+pub mod Chaining
+pub mod Dropping
+pub mod Rows
