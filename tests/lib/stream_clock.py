@@ -18,8 +18,9 @@ def pcr_of(packet):
     return (field >> 15) * 300 + (field & 511)
 
 
-def times_of(cells, asked=None):
-    """The time with each cell, in units of 27 MHz; cells are packets by position, or None where one was dropped."""
+def looks_of(cells, asked=None):
+    """The time with each cell, in units of 27 MHz, and whether it has a PCR that is read; cells are packets by position, or None
+    where one was dropped."""
     read, value, place, time, units, positions = asked, None, None, 0, 0, 0
     for position, packet in enumerate(cells):
         clock = None if packet is None else pcr_of(packet)
@@ -40,6 +41,12 @@ def times_of(cells, asked=None):
                         time, units, positions = time + step, units + step, positions + way
                     time, units = min(time, MOST), min(units, MOST)
                     read, value, place = pid, clock, position
+        yield time, place == position
+
+
+def times_of(cells, asked=None):
+    """The time with each cell."""
+    for time, _ in looks_of(cells, asked):
         yield time
 
 

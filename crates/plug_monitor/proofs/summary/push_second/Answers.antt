@@ -1,0 +1,11 @@
+use Rattle.plug_monitor.proofs.Summing.{text-last, text-next}
+use Rattle.plug_monitor.proofs.summary.push_second.Goals as goal
+
+pub returns : goal.returns
+returns c =
+    text-next c.args.cut _ _ _ _ _ c.in_ok-push_count.ensures
+    (text-next c.args.cut _ _ _ _ _ c.in_ok-push_count-2.ensures
+    (text-next c.args.cut _ _ _ _ _ c.in_ok-push_count-3.ensures
+    (text-next c.args.cut _ _ _ _ _ c.in_ok-push_count-4.ensures
+    (text-next c.args.cut _ _ _ _ _ c.in_ok-push_count-5.ensures
+    (text-last c.args.cut _ _ _ c.in_ok-push_count-6.ensures)))))
