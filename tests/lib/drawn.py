@@ -27,6 +27,8 @@ PLUGINS = {
                    "timestamps --pcr --every {many}"],
     "rate": ["rate", "rate --interval 100 --pid {pid}", "rate --interval 250 --min {many} --max 20000000", "rate --pcr-pid {pid} --only-label 3",
              "rate --every {many}"],
+    "monitor": ["monitor", "monitor --priority 3 --bitrate 2600000", "monitor --priority 3 --pid-gap {few} --pcr-pid {pid}", "monitor --only-label 3",
+                "monitor --priority 1 --every {many}"],
     "remap": ["remap --no-psi --unchecked {source}=33", "remap --no-psi 7777=7778", "remap --unchecked {source}=33",
               "remap {source}=257"],
     "inject": ["inject {table} --pid {source} --replace", "inject {table} --pid 4000 --inter-packet {few}",

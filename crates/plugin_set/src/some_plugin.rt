@@ -12,6 +12,7 @@ use plug_eit::{Eit, new_eit};
 use plug_end::Until;
 use plug_info::Info;
 use plug_inject::{Inject, new_inject};
+use plug_monitor::Monitor;
 use plug_move::{Remap, new_remap};
 use plug_pass::{Filter, Pattern, Skip, Slice, new_filter, new_pattern, new_skip, new_slice};
 use plug_pcr::Pcrverify;
@@ -58,6 +59,7 @@ pub(crate) enum SomePlugin {
     Pcrverify(Pcrverify),
     Timestamps(Timestamps),
     Rate(Rate),
+    Monitor(Monitor),
     Restuff(Restuff),
 }
 
@@ -91,6 +93,7 @@ macro_rules! each_plugin {
             SomePlugin::Pcrverify($plugin) => $does,
             SomePlugin::Timestamps($plugin) => $does,
             SomePlugin::Rate($plugin) => $does,
+            SomePlugin::Monitor($plugin) => $does,
             SomePlugin::Restuff($plugin) => $does,
         }
     };
@@ -136,6 +139,7 @@ macro_rules! made_of {
             PluginConf::Pcrverify(conf) => made!(Pcrverify::new($alloc,conf,$buffer), SomePlugin::Pcrverify),
             PluginConf::Timestamps(conf) => made!(Timestamps::new($alloc,conf,$buffer), SomePlugin::Timestamps),
             PluginConf::Rate(conf) => made!(Rate::new($alloc,conf,$buffer), SomePlugin::Rate),
+            PluginConf::Monitor(conf) => made!(Monitor::new($alloc,conf,$buffer), SomePlugin::Monitor),
             PluginConf::Restuff(conf) => made!(new_restuff($alloc,conf,$buffer), SomePlugin::Restuff),
         }
     };
@@ -165,7 +169,7 @@ impl SomePlugin {
 
 impl Plugin for SomePlugin {
     ghost use Rattle.std.specs.Prelude.{refl};
-    ghost use Rattle.plugin_set.specs.declared.some_plugin.SomePlugin.TheVariants.{Filter as MadeFilter, Skip as MadeSkip, Slice as MadeSlice, Pattern as MadePattern, Until as MadeUntil, Count as MadeCount, Continuity as MadeContinuity, Remap as MadeRemap, Inject as MadeInject, Pat as MadePat, Cat as MadeCat, Pmt as MadePmt, Sdt as MadeSdt, Nit as MadeNit, Time as MadeTime, Eit as MadeEit, Zap as MadeZap, Svremove as MadeSvremove, Analyze as MadeAnalyze, Info as MadeInfo, Tables as MadeTables, Compact as MadeCompact, Rmorphan as MadeRmorphan, Pcrverify as MadePcrverify, Timestamps as MadeTimestamps, Rate as MadeRate, Restuff as MadeRestuff};
+    ghost use Rattle.plugin_set.specs.declared.some_plugin.SomePlugin.TheVariants.{Filter as MadeFilter, Skip as MadeSkip, Slice as MadeSlice, Pattern as MadePattern, Until as MadeUntil, Count as MadeCount, Continuity as MadeContinuity, Remap as MadeRemap, Inject as MadeInject, Pat as MadePat, Cat as MadeCat, Pmt as MadePmt, Sdt as MadeSdt, Nit as MadeNit, Time as MadeTime, Eit as MadeEit, Zap as MadeZap, Svremove as MadeSvremove, Analyze as MadeAnalyze, Info as MadeInfo, Tables as MadeTables, Compact as MadeCompact, Rmorphan as MadeRmorphan, Pcrverify as MadePcrverify, Timestamps as MadeTimestamps, Rate as MadeRate, Monitor as MadeMonitor, Restuff as MadeRestuff};
 
     ghost rule = { elim [
       | MadeFilter p ↦ ⟦<Filter as Plugin>⟧.rule p
@@ -194,6 +198,7 @@ impl Plugin for SomePlugin {
       | MadePcrverify p ↦ ⟦<Pcrverify as Plugin>⟧.rule p
       | MadeTimestamps p ↦ ⟦<Timestamps as Plugin>⟧.rule p
       | MadeRate p ↦ ⟦<Rate as Plugin>⟧.rule p
+      | MadeMonitor p ↦ ⟦<Monitor as Plugin>⟧.rule p
       | MadeRestuff p ↦ ⟦<Restuff as Plugin>⟧.rule p
     ] };
 
@@ -224,6 +229,7 @@ impl Plugin for SomePlugin {
       | MadePcrverify p ↦ ⟦<Pcrverify as Plugin>⟧.stands_for p
       | MadeTimestamps p ↦ ⟦<Timestamps as Plugin>⟧.stands_for p
       | MadeRate p ↦ ⟦<Rate as Plugin>⟧.stands_for p
+      | MadeMonitor p ↦ ⟦<Monitor as Plugin>⟧.stands_for p
       | MadeRestuff p ↦ ⟦<Restuff as Plugin>⟧.stands_for p
     ] };
 
@@ -254,6 +260,7 @@ impl Plugin for SomePlugin {
       | MadePcrverify p ↦ ⟦<Pcrverify as Plugin>⟧.preallocated p
       | MadeTimestamps p ↦ ⟦<Timestamps as Plugin>⟧.preallocated p
       | MadeRate p ↦ ⟦<Rate as Plugin>⟧.preallocated p
+      | MadeMonitor p ↦ ⟦<Monitor as Plugin>⟧.preallocated p
       | MadeRestuff p ↦ ⟦<Restuff as Plugin>⟧.preallocated p
     ] };
 
@@ -284,6 +291,7 @@ impl Plugin for SomePlugin {
       | MadePcrverify p ↦ ⟦<Pcrverify as Plugin>⟧.silent p
       | MadeTimestamps p ↦ ⟦<Timestamps as Plugin>⟧.silent p
       | MadeRate p ↦ ⟦<Rate as Plugin>⟧.silent p
+      | MadeMonitor p ↦ ⟦<Monitor as Plugin>⟧.silent p
       | MadeRestuff p ↦ ⟦<Restuff as Plugin>⟧.silent p
     ] };
 
@@ -342,6 +350,7 @@ impl Plugin for SomePlugin {
       | MadePcrverify p ↦ λ history mark stands. refl
       | MadeTimestamps p ↦ λ history mark stands. refl
       | MadeRate p ↦ λ history mark stands. refl
+      | MadeMonitor p ↦ λ history mark stands. refl
       | MadeRestuff p ↦ λ history mark stands. refl
     ] };
 }

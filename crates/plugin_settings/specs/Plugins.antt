@@ -31,9 +31,10 @@ use Rattle.plug_window.specs.RmorphanEntry.{rmorphan_entry}
 use Rattle.plug_pcr.specs.PcrverifyEntry.{pcrverify_entry}
 use Rattle.plug_times.specs.TimestampsEntry.{timestamps_entry}
 use Rattle.plug_rate.specs.RateEntry.{rate_entry}
+use Rattle.plug_monitor.specs.MonitorEntry.{monitor_entry}
 use Rattle.plug_restuff.specs.RestuffEntry.{restuff_entry}
 use Rattle.plugin_settings.specs.declared.plugin_conf.PluginConf.{PluginConf}
-use Rattle.plugin_settings.specs.declared.plugin_conf.PluginConf.TheVariants.{Filter, Skip, Slice, Pattern, Until, Count, Continuity, Remap, Inject, Pat, Cat, Pmt, Sdt, Nit, Time, Eit, Zap, Svremove, Analyze, Info, Tables, Compact, Rmorphan, Pcrverify, Timestamps, Rate, Restuff}
+use Rattle.plugin_settings.specs.declared.plugin_conf.PluginConf.TheVariants.{Filter, Skip, Slice, Pattern, Until, Count, Continuity, Remap, Inject, Pat, Cat, Pmt, Sdt, Nit, Time, Eit, Zap, Svremove, Analyze, Info, Tables, Compact, Rmorphan, Pcrverify, Timestamps, Rate, Monitor, Restuff}
 use Rattle.plugin_settings.specs.declared.plugin_conf.PluginKind.{PluginKind}
 use Rattle.plugin_settings.specs.declared.plugin_conf.PluginKind.TheVariants as kind
 
@@ -65,6 +66,7 @@ kinds = kind.Filter
     ∷ kind.Pcrverify
     ∷ kind.Timestamps
     ∷ kind.Rate
+    ∷ kind.Monitor
     ∷ kind.Restuff
     ∷ []
 
@@ -96,6 +98,7 @@ kind_entry kind.Rmorphan = of_kind Rmorphan rmorphan_entry
 kind_entry kind.Pcrverify = of_kind Pcrverify pcrverify_entry
 kind_entry kind.Timestamps = of_kind Timestamps timestamps_entry
 kind_entry kind.Rate = of_kind Rate rate_entry
+kind_entry kind.Monitor = of_kind Monitor monitor_entry
 kind_entry kind.Restuff = of_kind Restuff restuff_entry
 
 -- what is said of settings
@@ -126,6 +129,7 @@ entry_of (Rmorphan conf) = of_conf kind.Rmorphan rmorphan_entry conf
 entry_of (Pcrverify conf) = of_conf kind.Pcrverify pcrverify_entry conf
 entry_of (Timestamps conf) = of_conf kind.Timestamps timestamps_entry conf
 entry_of (Rate conf) = of_conf kind.Rate rate_entry conf
+entry_of (Monitor conf) = of_conf kind.Monitor monitor_entry conf
 entry_of (Restuff conf) = of_conf kind.Restuff restuff_entry conf
 
 -- the name of a kind on the command line and in the reports
@@ -149,6 +153,7 @@ has_summary kind.Info = true
 has_summary kind.Pcrverify = true
 has_summary kind.Timestamps = true
 has_summary kind.Rate = true
+has_summary kind.Monitor = true
 has_summary _ = false
 
 -- the kind of plugin to which settings belong

@@ -10,6 +10,7 @@ use plug_eit::EitConf;
 use plug_end::UntilConf;
 use plug_info::InfoConf;
 use plug_inject::InjectConf;
+use plug_monitor::MonitorConf;
 use plug_move::RemapConf;
 use plug_pass::{FilterConf, PatternConf, SkipConf, SliceConf};
 use plug_pcr::PcrverifyConf;
@@ -54,6 +55,7 @@ pub enum PluginConf {
     Pcrverify(PcrverifyConf),
     Timestamps(TimestampsConf),
     Rate(RateConf),
+    Monitor(MonitorConf),
     Restuff(RestuffConf),
 }
 
@@ -86,11 +88,12 @@ pub enum PluginKind {
     Pcrverify,
     Timestamps,
     Rate,
+    Monitor,
     Restuff,
 }
 
 /// All kinds, in the order in which help names them.
-pub(crate) static KINDS: [PluginKind; 27] = [
+pub(crate) static KINDS: [PluginKind; 28] = [
     PluginKind::Filter,
     PluginKind::Skip,
     PluginKind::Slice,
@@ -117,6 +120,7 @@ pub(crate) static KINDS: [PluginKind; 27] = [
     PluginKind::Pcrverify,
     PluginKind::Timestamps,
     PluginKind::Rate,
+    PluginKind::Monitor,
     PluginKind::Restuff,
 ];
 
@@ -150,6 +154,7 @@ macro_rules! of_kind {
             PluginKind::Pcrverify => <PcrverifyConf as PluginSettings>::$name($($given),*),
             PluginKind::Timestamps => <TimestampsConf as PluginSettings>::$name($($given),*),
             PluginKind::Rate => <RateConf as PluginSettings>::$name($($given),*),
+            PluginKind::Monitor => <MonitorConf as PluginSettings>::$name($($given),*),
             PluginKind::Restuff => <RestuffConf as PluginSettings>::$name($($given),*),
         }
     };
@@ -185,6 +190,7 @@ macro_rules! read_kind {
             PluginKind::Pcrverify => <PcrverifyConf as PluginSettings>::read($alloc, $found).map(PluginConf::Pcrverify),
             PluginKind::Timestamps => <TimestampsConf as PluginSettings>::read($alloc, $found).map(PluginConf::Timestamps),
             PluginKind::Rate => <RateConf as PluginSettings>::read($alloc, $found).map(PluginConf::Rate),
+            PluginKind::Monitor => <MonitorConf as PluginSettings>::read($alloc, $found).map(PluginConf::Monitor),
             PluginKind::Restuff => <RestuffConf as PluginSettings>::read($alloc, $found).map(PluginConf::Restuff),
         }
     };
@@ -220,6 +226,7 @@ macro_rules! each_conf {
             PluginConf::Pcrverify($conf) => $does,
             PluginConf::Timestamps($conf) => $does,
             PluginConf::Rate($conf) => $does,
+            PluginConf::Monitor($conf) => $does,
             PluginConf::Restuff($conf) => $does,
         }
     };
@@ -271,6 +278,7 @@ impl PluginKind {
             PluginKind::Pcrverify => true,
             PluginKind::Timestamps => true,
             PluginKind::Rate => true,
+            PluginKind::Monitor => true,
             PluginKind::Restuff => false,
         }
     }
@@ -325,6 +333,7 @@ impl PluginConf {
             PluginConf::Pcrverify(_) => PluginKind::Pcrverify,
             PluginConf::Timestamps(_) => PluginKind::Timestamps,
             PluginConf::Rate(_) => PluginKind::Rate,
+            PluginConf::Monitor(_) => PluginKind::Monitor,
             PluginConf::Restuff(_) => PluginKind::Restuff,
         }
     }

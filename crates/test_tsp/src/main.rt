@@ -36,6 +36,7 @@ mod long_pat;
 mod meeting_gate;
 mod meeting_pairs;
 mod mixed_stream;
+mod monitor_rows;
 mod name_rows;
 mod named_tables;
 mod network_tables;
@@ -105,7 +106,7 @@ fn write_tables<R: Threads + Wait + Sync + AllocGlobal>(
 }
 
 /// All tables, in the order in which they are printed.
-fn tables() -> [&'static [Row]; 48] {
+fn tables() -> [&'static [Row]; 50] {
     [
         end_rows::rows(),
         plugin_rows::rows(),
@@ -121,6 +122,7 @@ fn tables() -> [&'static [Row]; 48] {
         time_rows::rows(),
         stamp_rows::rows(),
         interval_rows::rows(),
+        monitor_rows::rows(),
         info_rows::rows(),
         rate_rows::rows(),
         name_rows::rows(),
@@ -154,6 +156,7 @@ fn tables() -> [&'static [Row]; 48] {
         time_rows::of_words(),
         stamp_rows::of_words(),
         interval_rows::of_words(),
+        monitor_rows::of_words(),
         info_rows::of_words(),
     ]
 }

@@ -157,6 +157,12 @@ agreed-requires-in-Rate c = rw c.in-Rate.is at c.requires
 pub returns-in-Rate : goal.returns-in-Rate
 returns-in-Rate c = rw c.in-Rate.is c.agreed-in-Rate.ensures
 
+pub agreed-requires-in-Monitor : goal.agreed-requires-in-Monitor
+agreed-requires-in-Monitor c = rw c.in-Monitor.is at c.requires
+
+pub returns-in-Monitor : goal.returns-in-Monitor
+returns-in-Monitor c = rw c.in-Monitor.is c.agreed-in-Monitor.ensures
+
 pub agreed-requires-in-Restuff : goal.agreed-requires-in-Restuff
 agreed-requires-in-Restuff c = rw c.in-Restuff.is at c.requires
 

@@ -157,6 +157,12 @@ has_fault-requires-in-Rate c = rw c.in-Rate.is at c.requires
 pub returns-in-Rate : goal.returns-in-Rate
 returns-in-Rate c = rw c.in-Rate.is c.has_fault-in-Rate.ensures
 
+pub has_fault-requires-in-Monitor : goal.has_fault-requires-in-Monitor
+has_fault-requires-in-Monitor c = rw c.in-Monitor.is at c.requires
+
+pub returns-in-Monitor : goal.returns-in-Monitor
+returns-in-Monitor c = rw c.in-Monitor.is c.has_fault-in-Monitor.ensures
+
 pub has_fault-requires-in-Restuff : goal.has_fault-requires-in-Restuff
 has_fault-requires-in-Restuff c = rw c.in-Restuff.is at c.requires
 

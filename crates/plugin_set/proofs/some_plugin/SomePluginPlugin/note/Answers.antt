@@ -208,6 +208,12 @@ returns-in-Rate c = rw c.in-Rate.is (record {
   silent = λ silent. absurd (both_ways false refl silent);
 })
 
+pub note-requires-in-Monitor : goal.note-requires-in-Monitor
+note-requires-in-Monitor c = rw c.in-Monitor.is at c.requires
+
+pub returns-in-Monitor : goal.returns-in-Monitor
+returns-in-Monitor c = rw c.in-Monitor.is c.note-in-Monitor.ensures
+
 pub note-requires-in-Restuff : goal.note-requires-in-Restuff
 note-requires-in-Restuff c = rw c.in-Restuff.is at c.requires
 

@@ -168,6 +168,12 @@ pass_over-requires-in-Rate c = rw c.in-Rate.is at c.requires
 pub returns-in-Rate : goal.returns-in-Rate
 returns-in-Rate c = rw c.in-Rate.is c.pass_over-in-Rate.ensures
 
+pub pass_over-requires-in-Monitor : goal.pass_over-requires-in-Monitor
+pass_over-requires-in-Monitor c = rw c.in-Monitor.is at c.requires
+
+pub returns-in-Monitor : goal.returns-in-Monitor
+returns-in-Monitor c = rw c.in-Monitor.is c.pass_over-in-Monitor.ensures
+
 pub pass_over-requires-in-Restuff : goal.pass_over-requires-in-Restuff
 pass_over-requires-in-Restuff c = rw c.in-Restuff.is at c.requires
 

@@ -214,6 +214,12 @@ returns-in-Rate c = rw c.in-Rate.is (record {
   same_silent = refl;
 })
 
+pub step-requires-in-Monitor : goal.step-requires-in-Monitor
+step-requires-in-Monitor c = rw c.in-Monitor.is at c.requires
+
+pub returns-in-Monitor : goal.returns-in-Monitor
+returns-in-Monitor c = rw c.in-Monitor.is c.step-in-Monitor.ensures
+
 pub step-requires-in-Restuff : goal.step-requires-in-Restuff
 step-requires-in-Restuff c = rw c.in-Restuff.is at c.requires
 

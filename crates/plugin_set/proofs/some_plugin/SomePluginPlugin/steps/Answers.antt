@@ -157,6 +157,12 @@ steps-requires-in-Rate c = rw c.in-Rate.is at c.requires
 pub returns-in-Rate : goal.returns-in-Rate
 returns-in-Rate c = rw c.in-Rate.is c.steps-in-Rate.ensures
 
+pub steps-requires-in-Monitor : goal.steps-requires-in-Monitor
+steps-requires-in-Monitor c = rw c.in-Monitor.is at c.requires
+
+pub returns-in-Monitor : goal.returns-in-Monitor
+returns-in-Monitor c = rw c.in-Monitor.is c.steps-in-Monitor.ensures
+
 pub steps-requires-in-Restuff : goal.steps-requires-in-Restuff
 steps-requires-in-Restuff c = rw c.in-Restuff.is at c.requires
 

@@ -157,6 +157,12 @@ summary-requires-in-Rate c = rw c.in-Rate.is at c.requires
 pub returns-in-Rate : goal.returns-in-Rate
 returns-in-Rate c = rw c.in-Rate.is c.summary-in-Rate.ensures
 
+pub summary-requires-in-Monitor : goal.summary-requires-in-Monitor
+summary-requires-in-Monitor c = rw c.in-Monitor.is at c.requires
+
+pub returns-in-Monitor : goal.returns-in-Monitor
+returns-in-Monitor c = rw c.in-Monitor.is c.summary-in-Monitor.ensures
+
 pub summary-requires-in-Restuff : goal.summary-requires-in-Restuff
 summary-requires-in-Restuff c = rw c.in-Restuff.is at c.requires
 

@@ -79,5 +79,8 @@ returns-in-Timestamps c = rw c.in-Timestamps.is c.table_file-in-Timestamps.ensur
 pub returns-in-Rate : goal.returns-in-Rate
 returns-in-Rate c = rw c.in-Rate.is c.table_file-in-Rate.ensures
 
+pub returns-in-Monitor : goal.returns-in-Monitor
+returns-in-Monitor c = rw c.in-Monitor.is c.table_file-in-Monitor.ensures
+
 pub returns-in-Restuff : goal.returns-in-Restuff
 returns-in-Restuff c = rw c.in-Restuff.is c.table_file-in-Restuff.ensures

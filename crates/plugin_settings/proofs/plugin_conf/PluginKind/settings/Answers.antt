@@ -25,6 +25,7 @@ use Rattle.plug_window.specs.RmorphanEntry.{rmorphan_entry}
 use Rattle.plug_pcr.specs.PcrverifyEntry.{pcrverify_entry}
 use Rattle.plug_times.specs.TimestampsEntry.{timestamps_entry}
 use Rattle.plug_rate.specs.RateEntry.{rate_entry}
+use Rattle.plug_monitor.specs.MonitorEntry.{monitor_entry}
 use Rattle.plug_restuff.specs.RestuffEntry.{restuff_entry}
 use Rattle.plugin_settings.specs.Plugins.{IsValid}
 use Rattle.plugin_settings.specs.declared.plugin_conf.PluginConf.TheVariants as conf
@@ -186,6 +187,12 @@ returns-in-Rate-clause-reads c = rw c.in-Rate.is (read_into conf.Rate rate_entry
 
 pub returns-in-Rate-clause-valid : goal.returns-in-Rate-clause-valid
 returns-in-Rate-clause-valid c = made conf.Rate _ IsValid _ _ c.map-in-Rate.ensures.cases (λ _ p. p) c.read-in-Rate.ensures.valid
+
+pub returns-in-Monitor-clause-reads : goal.returns-in-Monitor-clause-reads
+returns-in-Monitor-clause-reads c = rw c.in-Monitor.is (read_into conf.Monitor monitor_entry.options c.args.found.now _ _ c.map-in-Monitor.ensures.cases c.read-in-Monitor.ensures.reads)
+
+pub returns-in-Monitor-clause-valid : goal.returns-in-Monitor-clause-valid
+returns-in-Monitor-clause-valid c = made conf.Monitor _ IsValid _ _ c.map-in-Monitor.ensures.cases (λ _ p. p) c.read-in-Monitor.ensures.valid
 
 pub returns-in-Restuff-clause-reads : goal.returns-in-Restuff-clause-reads
 returns-in-Restuff-clause-reads c = rw c.in-Restuff.is (read_into conf.Restuff restuff_entry.options c.args.found.now _ _ c.map-in-Restuff.ensures.cases c.read-in-Restuff.ensures.reads)
