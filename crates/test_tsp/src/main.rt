@@ -15,6 +15,7 @@ mod cycle_rows;
 mod edit_rows;
 mod eit_rows;
 mod end_rows;
+mod error_rows;
 mod event_tables;
 mod every_rows;
 mod failing_ends;
@@ -36,7 +37,6 @@ mod long_pat;
 mod meeting_gate;
 mod meeting_pairs;
 mod mixed_stream;
-mod monitor_rows;
 mod name_rows;
 mod named_tables;
 mod network_tables;
@@ -122,7 +122,7 @@ fn tables() -> [&'static [Row]; 50] {
         time_rows::rows(),
         stamp_rows::rows(),
         interval_rows::rows(),
-        monitor_rows::rows(),
+        error_rows::rows(),
         info_rows::rows(),
         rate_rows::rows(),
         name_rows::rows(),
@@ -156,7 +156,7 @@ fn tables() -> [&'static [Row]; 50] {
         time_rows::of_words(),
         stamp_rows::of_words(),
         interval_rows::of_words(),
-        monitor_rows::of_words(),
+        error_rows::of_words(),
         info_rows::of_words(),
     ]
 }
