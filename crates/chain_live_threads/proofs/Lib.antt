@@ -1,0 +1,9 @@
+mod Carries
+mod ServeLemmas
+mod NoteLemmas
+mod ToldLemmas
+mod RowLemmas
+mod WentLemmas
+mod EndLemmas
+mod RestLemmas
+mod SeatLemmas
