@@ -1,0 +1,2 @@
+-- The definitions of services that are named.
+pub mod NamedServices
