@@ -24,7 +24,7 @@ use Rattle.stage_run.specs.Telling.{may_follow, followed}
 use Rattle.stage_run.specs.Works.{Works, InputWorks, InputTells, FaultsTold, source_faults, read_for}
 use Rattle.stage_run.specs.PartStands.{MayWork}
 use Rattle.stage_run.specs.Rows.{IsUnfinished}
-use Rattle.stage_run.proofs.StreamLemmas.{length-concat}
+use Rattle.stage_run.proofs.StreamLemmas.{length-concat, unfinished-few}
 use Rattle.stage_run.proofs.InputLemmas.{InputGoes-none}
 use Rattle.stage_run.proofs.ContinuesLemmas.{Continues, continues-feed}
 use Rattle.stage_run.proofs.KeepingLemmas.{IsLonger, keeps_list}
@@ -172,10 +172,6 @@ tells_followed true news at done fills unread filled free = inl (filled, free)
 tells_followed false news at done fills unread filled free = (filled, free)
 
 -- of a packet that is not whole there are fewer bytes
-unfinished-few : (hand : List ℕ) → IsUnfinished hand → length hand < 188
-unfinished-few [] is = omega arith
-unfinished-few (first ∷ rest) is = is.1
-
 -- no source and no null packets end so
 no_too_long_ : {S : Type 0} (seen : S → SourceView) (feed : PacketFeed S) (first : SourceView) (read : List ℕ) (rows : List (List ℕ))
     → FeedStands seen feed first read rows (Some TooLong) → ⊥
