@@ -1,5 +1,6 @@
 -- What the work of a part says, by its kind.
-use Rattle.std.proofs.Common.{◌≡◌, ℕ, ◌+◌, ◌*◌, ◌<◌, ◌≤◌, List, [], length, take, Option, Some, refl, subst, arith, inl, inr}
+use Rattle.std.proofs.Common.{◌≡◌, ℕ, ◌+◌, ◌*◌, ◌<◌, ◌≤◌, List, [], length, take, Option, Some, refl, subst, ◌∙◌, arith, inl, inr}
+use Rattle.std.proofs.lemmas.Bool.{cases_lt}
 use Rattle.ts_packet.specs.declared.cell.Cell.{Cell}
 use Rattle.chain_model.specs.PluginRule.{PluginRule, passing_rule}
 use Rattle.chain_model.specs.Apply.{StageList}
@@ -19,7 +20,7 @@ use Rattle.stage_run.specs.Feeds.{SameFeed}
 use Rattle.stage_run.specs.OutputStands.{SamePart}
 use Rattle.stage_run.specs.PartLists.{PartLists}
 use Rattle.stage_run.specs.PartStands.{PartGives, MayWantMemory, sink_kind, feed_kind, stream_kind, kind_of, rule_of, preallocated_of, an_input, a_plugin, an_output}
-use Rattle.stage_run.specs.Works.{WorksByKind, FillsByKind, InputTells, OutputTells, KeepsRule, read_for}
+use Rattle.stage_run.specs.Works.{WorksByKind, FillsByKind, RestsByKind, InputTells, OutputTells, KeepsRule, read_for}
 
 -- a part that goes on has done a cell where it had one
 pub fills-some : {S K P : Type 0} (new : StagePart S K P) (len done : ℕ) → FillsByKind new len done → done ≡ 0 → len ≡ 0
@@ -27,6 +28,26 @@ fills-some (Input new) len done (inl all) none = omega arith
 fills-some (Input new) len done (inr some) none = let a : 0 < done = some.0 in absurd (omega arith)
 fills-some (Plugin new) len done all none = let a : done ≡ len = all in omega arith
 fills-some (Output new) len done all none = let a : done ≡ len = all in omega arith
+
+-- the cells that a plugin or an output has not done are as they were
+kept-plugin : {S K P : Type 0} (new : StagePart S K P) (a b : List Cell) → kind_of new ≡ a_plugin → RestsByKind new a b → b ≡ a
+kept-plugin (Input new) a b kind rests = absurd cc
+kept-plugin (Plugin new) a b kind rests = rests
+kept-plugin (Output new) a b kind rests = absurd cc
+
+kept-output : {S K P : Type 0} (new : StagePart S K P) (a b : List Cell) → kind_of new ≡ an_output → RestsByKind new a b → b ≡ a
+kept-output (Input new) a b kind rests = absurd cc
+kept-output (Plugin new) a b kind rests = absurd cc
+kept-output (Output new) a b kind rests = rests
+
+-- so are those of a stage that is not the first
+pub rests-kept : {S K P : Type 0} (part new : StagePart S K P) (a b : List Cell) (plugins j : ℕ) → kind_of new ≡ kind_of part → j ≤ plugins
+    → (j < plugins → kind_of part ≡ a_plugin) → (j ≡ plugins → kind_of part ≡ an_output) → RestsByKind new a b → b ≡ a
+rests-kept part new a b plugins j same le plugin output rests =
+    elim (cases_lt j plugins) [
+      | inl lt ↦ kept-plugin new a b (same ∙ plugin lt) rests
+      | inr ge ↦ kept-output new a b (same ∙ output (omega (arith, le, ge))) rests
+    ]
 
 module _ {S K P : Type 0} (see : Seeing S K P) where
   pub record InputDid (old new : StagePart S K P) (before : PartLists) (news : News) (cells cells_new : List Cell) (work : Work) (after : PartLists) : Type 0 where

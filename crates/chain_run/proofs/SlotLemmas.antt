@@ -1,11 +1,8 @@
 -- The slots of the buffer: what is read from a row of them, and what a write to it leaves.
-use Rattle.std.proofs.Common.{◌≡◌, ◌⊎◌, inl, inr, ℕ, zero, suc, ◌+◌, ◌-◌, ◌*◌, ◌/◌, ◌%◌, ◌<◌, ◌≤◌, List, [], ◌∷◌, ◌++◌, length, take, drop, Vec, refl, ap, sym, ◌∙◌, subst, arith, length-append, length-take, length-drop}
+use Rattle.std.proofs.Common.{◌≡◌, ◌⊎◌, inl, inr, ℕ, zero, suc, ◌+◌, ◌-◌, ◌*◌, ◌/◌, ◌%◌, ◌<◌, ◌≤◌, List, [], ◌∷◌, ◌++◌, length, take, drop, refl, ap, sym, ◌∙◌, subst, arith, length-append, length-take, length-drop}
 use Rattle.std.specs.Prelude.{slice_index_or}
 use Rattle.std.proofs.lemmas.Bool.{cases_lt}
-use Rattle.std.specs.Vec.{with_items}
-use Rattle.std.proofs.lemmas.Grind.{common_steps}
-use borrow.Rule.Slice.PartMut.{put_mid}
-use Rattle.std.proofs.lemmas.List.{with_items_is, drop-drop, get_or_append_left, get_or-append_right, get_or-drop, get_or-take, take-append-drop}
+use Rattle.std.proofs.lemmas.List.{get_or_append_left, get_or-append_right, get_or-drop, get_or-take, take-append-drop}
 use Rattle.std.proofs.Math.Seq.{drop-cons}
 use Rattle.std.proofs.Math.Nat.{div-add-mod, mul-le-mul_left, mul-suc}
 use Rattle.std.proofs.lemmas.Nat.{mod-mul-add}
@@ -165,14 +162,3 @@ row-other slots at row low p le above within above' within' outside =
           | inl less ↦ slot-apart p (at + i) (length slots) (omega arith) (omega arith) (sym same)
           | inr more ↦ slot-apart (at + i) p (length slots) (omega arith) (omega arith) same
         ]
-
--- a window of the buffer that comes back changed
-pub window-put : {Z : Type 0} (v : Vec Cell Z) (start len : ℕ) (now row : List Cell) → now ≡ v.items → length now ≡ v.len → start + len ≤ length now → length row ≡ len
-    → (with_items v (put_mid start (start + len - start) now row)).items ≡ take start v.items ++ (row ++ drop (start + len) v.items)
-window-put v start len now row is size fits long =
-    let k : ℕ = start + len - start in
-    let k-is : k ≡ len = omega arith in
-    let fit : length (put_mid start k now row) ≡ length now = grind (arith, common_steps) in
-    with_items_is v (put_mid start k now row) (fit ∙ size)
-    ∙ (ap (λ (l : List Cell). take start l ++ (row ++ drop k (drop start l))) is
-    ∙ ap (λ (l : List Cell). take start v.items ++ (row ++ l)) (drop-drop k start v.items ∙ ap (λ n. drop n v.items) (omega arith)))

@@ -31,6 +31,7 @@ use Rattle.chain_run.proofs.SlotLemmas.{holds-append, holds-take, holds-drop, ho
 use Rattle.chain_run.proofs.StepLemmas.{set_at, set_at-same, pick, doing-more, Own, stepped}
 use Rattle.chain_run.proofs.QuietVisit.{going-own}
 use Rattle.chain_run.proofs.RanLemmas.{far-up_to}
+use Rattle.chain_run.proofs.KindLemmas.{rests-kept}
 use Rattle.chain_run.proofs.StageVisit as stage
 use Rattle.chain_run.proofs.StageVisit.{left-parts}
 
@@ -257,7 +258,10 @@ module _ {S K P : Type 0} (see : Seeing S K P) (begun : RunStart S K)
         -- what is left to the stage
         is-left : (j : ℕ) → suc j ≡ k → j ≤ begun.plan.plugins → HoldsFrom (slot new_cells) (length (new.stages (suc j)).given) (between new j)
         is-left j e le =
-            let rest-same : drop work.done window_new ≡ drop work.done (take len (drop at (old.stages j).given)) = worked.stage.rest ∙ ap (drop work.done) (window-is j e le) in
+            let rest-same : drop work.done window_new ≡ drop work.done (take len (drop at (old.stages j).given)) =
+            rests-kept (part k) new_part (drop work.done window) (drop work.done window_new) begun.plan.plugins j worked.same_kind le
+            (λ lt. (doing.plugin j e lt).kind) (λ last. (doing.output (ap suc (sym last) ∙ e)).kind) worked.stage.rest
+            ∙ ap (drop work.done) (window-is j e le) in
             let front : HoldsFrom (slot new_cells) (at + work.done) (drop work.done (take len (drop at (old.stages j).given))) =
             subst (λ (l : List Cell). HoldsFrom (slot new_cells) (at + work.done) l) rest-same (holds-drop (slot new_cells) at work.done window_new (let a = done-le in omega (arith, same_length)) row-holds) in
             let far-old : HoldsFrom (slot cells) (at + len) (drop (at + len) (old.stages j).given) =

@@ -1,4 +1,6 @@
 -- The definitions of a run of a chain.
+pub mod Blocks
+pub mod Lifting
 pub mod Fresh
 pub mod Laws
 pub mod Met

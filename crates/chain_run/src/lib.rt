@@ -10,6 +10,7 @@
 //! in the promise and is met when the stages are together.
 #![tactic(auto)]
 
+mod cell_block;
 mod laws;
 mod parts;
 mod run_end;
@@ -18,6 +19,7 @@ mod serial_run;
 mod stage_laws;
 mod stages;
 
+pub use cell_block::CellBlock;
 pub use laws::{any_run, machine_laws};
 pub use parts::{GivenBack, StageRooms, lay_stages, take_apart};
 pub use run_end::RunEnd;

@@ -9,12 +9,12 @@ ghost use Rattle.chain_core.specs.CoreNumbers.{progress_of_core};
 ghost use Rattle.chain_run.specs.Runs.{nothing_told};
 ghost use Rattle.chain_run.specs.Working.{Looks};
 
+use crate::cell_block::{CellBlock, Lifted};
 use crate::laws::machine_laws;
 use chain_core::{Core, News, StageWord};
 use plugin_trait::Plugin;
 use stage_run::{StagePart, Work};
 use ts_outside::{Gate, Sink, Source};
-use ts_packet::Cell;
 
 /// The word of a stage that reports nothing.
 const NOTHING: StageWord = StageWord {
@@ -51,7 +51,7 @@ pub struct SerialChain<S, K, P> {
     /// The input, the plugins and the output, in this order.
     pub parts: Vec<StagePart<S, K, P>>,
     /// The buffer: the cell at a position is in the slot of that number modulo the number of slots.
-    pub cells: Vec<Cell>,
+    pub cells: CellBlock,
 }
 
 impl<S: Source, K: Sink, P: Plugin> SerialChain<S, K, P> {
@@ -94,7 +94,14 @@ impl<S: Source, K: Sink, P: Plugin> SerialChain<S, K, P> {
         let slots = self.cells.len();
         let start = (at % slots as u64) as usize;
         let len = ((news.taken - at) as usize).min(most).min(slots - start);
-        self.parts[stage].work(stage, at, &mut self.cells[start..start + len], news, gate)
+        let Lifted {
+            before,
+            window,
+            behind,
+        } = self.cells.lift(start, len);
+        let (work, window) = self.parts[stage].work(stage, at, window, news, gate);
+        self.cells.put_back(before, window, behind);
+        work
     }
 
     /// The turn of a stage: it takes of the cells that wait, works, and gives on what it has done. Returns whether anything moved.

@@ -18,6 +18,7 @@ ghost use Rattle.chain_run.specs.Working.{IsRunning, RunsSomehow};
 ghost use Rattle.chain_run.specs.RunOf.{RunOf, NeverBegan};
 ghost use Rattle.chain_run.specs.RunTold.{ClosesTold};
 
+use crate::cell_block::CellBlock;
 use crate::laws::any_run;
 use crate::parts::{GivenBack, StageRooms, lay_stages, take_apart};
 use crate::serial_chain::SerialChain;
@@ -27,12 +28,11 @@ use plugin_trait::{Heard, Plugin};
 use stage_run::{InputPart, IoBuffer, OutputPart, Stuffing};
 use std::alloc::{AllocError, Global};
 use ts_outside::{Gate, Sink, Source};
-use ts_packet::Cell;
 
 /// The memory of a run, but for that of the plugins.
 struct SerialMemory<S, K, P> {
     core: Core,
-    cells: Vec<Cell>,
+    cells: CellBlock,
     rooms: StageRooms<S, K, P>,
 }
 
@@ -42,16 +42,19 @@ impl<S, K, P> SerialMemory<S, K, P> {
         requires { IsValidPlan plan.now }
         ensures plan { IfOk result (λ memory. memory.core.plan ≡ plan.now) }
         ensures fresh { IfOk result (λ memory. StandsFor memory.core start) }
-        ensures cells { IfOk result (λ memory. vec_len memory.cells ≡ plan.now.buffer) }
+        ensures cells { IfOk result (λ memory. length memory.cells.items ≡ plan.now.buffer) }
         ensures none { IfOk result (λ memory. memory.rooms.row.items ≡ []) }
         ensures room { IfOk result (λ memory. vec_capacity memory.rooms.row ≡ plan.now.plugins + 2) }
     {
         let window = plan.most.min(plan.buffer);
         let core = Core::new(alloc, plan)?;
-        let cells = vec![in alloc; Cell::dropped(); plan.buffer]?;
         let input = IoBuffer::new(alloc, window)?;
         let output = IoBuffer::new(alloc, window)?;
-        let row = Vec::with_capacity(alloc, plan.plugins + 2)?;
+        let cells = CellBlock::new(alloc, plan.buffer)?;
+        let Ok(row) = Vec::with_capacity(alloc, plan.plugins + 2) else {
+            cells.close();
+            return Err(AllocError);
+        };
         Ok(SerialMemory {
             core,
             cells,
@@ -74,7 +77,7 @@ fn lay<S: Source, K: Sink, P: Plugin>(
     requires plugins { memory.core.plan.plugins ≡ vec_len plugins.old }
     requires fresh { AreFresh (HeardStands P.rule P.stands_for) plugins.old.items }
     requires numbers { StandsFor memory.core start }
-    requires slots { vec_len memory.cells ≡ memory.core.plan.buffer }
+    requires slots { length memory.cells.items ≡ memory.core.plan.buffer }
     requires none { memory.rooms.row.items ≡ [] }
     requires room { vec_capacity memory.rooms.row ≡ memory.core.plan.plugins + 2 }
     ensures runs { let see = seeing S.seen K.seen P.rule P.stands_for P.preallocated in
@@ -153,11 +156,8 @@ pub fn end<S: Source, K: Sink, P: Plugin>(run: SerialRun<S, K, P>) -> RunEnd<S, 
     // It runs nothing: the proof cites it.
     any_run::<S, K, P>();
     let SerialRun { chain, plugins } = run;
-    let SerialChain {
-        core,
-        parts,
-        cells: _,
-    } = chain;
+    let SerialChain { core, parts, cells } = chain;
+    cells.close();
     let closed = core.close();
     let GivenBack {
         input,

@@ -1,7 +1,7 @@
 -- Stages that are driven in parts.
 use Rattle.std.proofs.Common.{◌≡◌, ℕ, zero, suc, ◌<◌, List, [], ◌∷◌, ◌++◌, length, set, slice_index_or, refl, ◌∙◌, subst, arith, Bool, true, false}
 use Rattle.std.specs.Prelude.{◌&&◌}
-use denote.RawPtr.{Ptr}
+use Rattle.cell_land.specs.declared.cell_window.Bases.{Bases}
 use Rattle.stage_run.specs.Seeing.{Seeing}
 use Rattle.chain_run.specs.Runs.{RunStart}
 use Rattle.window_ring.specs.declared.ring.Ring.{Ring}
@@ -104,7 +104,7 @@ module _ {S K P : Type 0} (see : Seeing S K P) (ring : Ring) where
   unfolding Keeps
   kept_then a b c x y = (y.0 ∙ x.0, λ begun base e h. y.1 begun base e (x.1 begun base e h))
 
-  pub kept_open : (a b : Stage S K P) → Keeps see ring a b → (begun : RunStart S K) (base : Ptr) → key_of ring ≡ key_at begun base → Holds see begun base (table_of ring) a → Holds see begun base (table_of ring) b
+  pub kept_open : (a b : Stage S K P) → Keeps see ring a b → (begun : RunStart S K) (base : Bases) → key_of ring ≡ key_at begun base → Holds see begun base (table_of ring) a → Holds see begun base (table_of ring) b
   unfolding Keeps
   kept_open a b k = k.1
 
@@ -123,7 +123,7 @@ module _ {S K P : Type 0} (see : Seeing S K P) (ring : Ring) where
   pub both : (stages first first' rest rest' : List (Stage S K P)) → first ++ rest ≡ stages → Carried see ring first first' → Carried see ring rest rest' → Carried see ring stages (first' ++ rest')
   both stages first first' rest rest' is a b = beside_both (Keeps see ring) stages first first' rest rest' is a b
 
-  held : (old new : List (Stage S K P)) → Carried see ring old new → (begun : RunStart S K) (base : Ptr) → key_of ring ≡ key_at begun base → Each (Holds see begun base (table_of ring)) old → Each (Holds see begun base (table_of ring)) new
+  held : (old new : List (Stage S K P)) → Carried see ring old new → (begun : RunStart S K) (base : Bases) → key_of ring ≡ key_at begun base → Each (Holds see begun base (table_of ring)) old → Each (Holds see begun base (table_of ring)) new
   unfolding AreBeside
   held [] [] c begun base e all = tt
   held [] (y ∷ ys) c begun base e all = absurd c
@@ -153,7 +153,7 @@ module _ {S K P : Type 0} (see : Seeing S K P) (ring : Ring) where
 
   -- ---- each is ready by itself
 
-  each-ready : (stages : List (Stage S K P)) (begun : RunStart S K) (base : Ptr) → key_of ring ≡ key_at begun base → Each (Holds see begun base (table_of ring)) stages → Each (IsReady see ring) stages
+  each-ready : (stages : List (Stage S K P)) (begun : RunStart S K) (base : Bases) → key_of ring ≡ key_at begun base → Each (Holds see begun base (table_of ring)) stages → Each (IsReady see ring) stages
   unfolding IsReady
   each-ready [] begun base e all = tt
   each-ready (x ∷ xs) begun base e all = ((begun, base, e, all.0), each-ready xs begun base e all.1)

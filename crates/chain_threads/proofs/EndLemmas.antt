@@ -2,7 +2,7 @@
 use Rattle.std.proofs.Common.{◌≡◌, ℕ, zero, suc, ◌<◌, ◌≤◌, List, [], ◌∷◌, ◌++◌, length, refl, inl, inr, if◌then◌else◌, sym, ap, ◌∙◌, subst, arith, append_assoc}
 use Rattle.std.specs.Prelude.{IsSome, slice_index_or, nat_le}
 use Rattle.std.proofs.lemmas.Bool.{cases_lt, cond-true, cond-false, le-leb, lt-leb}
-use denote.RawPtr.{Ptr}
+use Rattle.cell_land.specs.declared.cell_window.Bases.{Bases}
 use Rattle.atomic_table.specs.Seated.{TableId}
 use Rattle.chain_model.specs.PluginRule.{PluginRule}
 use Rattle.chain_model.specs.Apply.{StageList}
@@ -59,7 +59,7 @@ some-of : {X : Type 0} (xs : List X) → 0 < length xs → X
 some-of [] lt = absurd (omega arith)
 some-of (x ∷ xs) lt = x
 
-module _ {S K P : Type 0} (see : Seeing S K P) (begun : RunStart S K) (base : Ptr) (table : TableId) (seats : List StageSeat) (parts : List (StagePart S K P)) (are : AllHaveEnded see begun base table seats parts) where
+module _ {S K P : Type 0} (see : Seeing S K P) (begun : RunStart S K) (base : Bases) (table : TableId) (seats : List StageSeat) (parts : List (StagePart S K P)) (are : AllHaveEnded see begun base table seats parts) where
   abbrev plan : CorePlan
   plan = begun.plan
 

@@ -1,6 +1,6 @@
 -- A stage of which nothing was done.
 use Rattle.std.proofs.Common.{◌≡◌, [], None, refl, sym, ap, subst, arith}
-use denote.RawPtr.{Ptr}
+use Rattle.cell_land.specs.declared.cell_window.Bases.{Bases}
 use Rattle.chain_model.specs.Apply.{StageList}
 use Rattle.chain_core.specs.Machine.{Allowed}
 use Rattle.chain_core.specs.ChainRun.{state_after}
@@ -20,7 +20,7 @@ use Rattle.chain_threads.specs.Turning.{IsNewStage}
 use Rattle.chain_run.specs.StageLaws.Premise.{Anything, HeldSoFar}
 use Rattle.chain_threads.specs.RunLaws.{RunLaws}
 
-module _ {S K P : Type 0} (see : Seeing S K P) (laws : RunLaws see) (begun : RunStart S K) (base : Ptr) (table : TableId) (part : StagePart S K P) (seat : StageSeat) (n : IsNewStage see begun base table part seat) where
+module _ {S K P : Type 0} (see : Seeing S K P) (laws : RunLaws see) (begun : RunStart S K) (base : Bases) (table : TableId) (part : StagePart S K P) (seat : StageSeat) (n : IsNewStage see begun base table part seat) where
   abbrev hand : Row
   hand = row_of 0 (land_of (key_at begun base)) []
 

@@ -1,6 +1,6 @@
 -- The stages of a run in threads: their parts and seats put together, and taken apart again.
 use Rattle.std.proofs.Common.{◌≡◌, ℕ, zero, suc, ◌+◌, ◌<◌, ◌≤◌, List, [], ◌∷◌, None, ◌++◌, length, take, slice_index_or, refl, sym, ap, ◌∙◌, subst, arith, append-nil, true, false}
-use denote.RawPtr.{Ptr}
+use Rattle.cell_land.specs.declared.cell_window.Bases.{Bases}
 use Rattle.atomic_table.specs.Seated.{TableId}
 use Rattle.stage_run.specs.Seeing.{Seeing}
 use Rattle.stage_run.specs.declared.stage_part.StagePart.{StagePart}
@@ -95,7 +95,7 @@ module _ {X : Type 0} (F : X → X → Type 0) where
 pub key-is : {S K : Type 0} (ring : Ring) (begun : RunStart S K) → (key_of ring).plan ≡ begun.plan → key_of ring ≡ key_at begun (key_of ring).base
 key-is ring begun is = ap (λ p. record { plan = p; base = (key_of ring).base }) is
 
-module _ {S K P : Type 0} (see : Seeing S K P) (laws : RunLaws see) (begun : RunStart S K) (base : Ptr) (table : TableId) where
+module _ {S K P : Type 0} (see : Seeing S K P) (laws : RunLaws see) (begun : RunStart S K) (base : Bases) (table : TableId) where
   new-holds : (part : StagePart S K P) (seat : StageSeat) → IsNewStage see begun base table part seat → Holds see begun base table (new_stage part seat)
   new-holds part seat n = (λ f. new-stands see laws begun base table part seat n, λ t. absurd (let f : false ≡ true = t in cc))
 
@@ -107,7 +107,7 @@ module _ {S K P : Type 0} (see : Seeing S K P) (laws : RunLaws see) (begun : Run
   each-holds (p ∷ ps) (s ∷ ss) same new = (new-holds p s (new 0 p s (omega arith)), each-holds ps ss (omega (arith, same)) (λ i d e lt. new (suc i) d e (omega (arith, lt))))
 
 module _ {S K P : Type 0} (see : Seeing S K P) (begun : RunStart S K) (ring : Ring) (parts : List (StagePart S K P)) (seats : List StageSeat) (n : AreNew see begun ring parts seats) where
-  abbrev base : Ptr
+  abbrev base : Bases
   base = (key_of ring).base
 
   abbrev table : TableId

@@ -3,7 +3,7 @@ use Rattle.std.proofs.Common.{◌≡◌, ℕ, suc, ◌+◌, ◌-◌, ◌≤◌, 
 use Rattle.std.specs.Prelude.{IsSome}
 use Rattle.std.proofs.lemmas.List.{take-append-drop, drop-drop, length-take, drop-take, take-append-le}
 use Rattle.std.proofs.Math.Seq.{take-add, drop-append-le}
-use denote.RawPtr.{Ptr}
+use Rattle.cell_land.specs.declared.cell_window.Bases.{Bases}
 use Rattle.ts_packet.specs.declared.cell.Cell.{Cell}
 use Rattle.chain_model.specs.PluginRule.{PluginRule}
 use Rattle.chain_model.specs.Apply.{StageList}
@@ -19,6 +19,7 @@ use Rattle.stage_run.specs.declared.stage_part.StagePart.{StagePart}
 use Rattle.stage_run.specs.declared.work.Work.{Work}
 use Rattle.stage_run.specs.PartLists.{PartLists}
 use Rattle.chain_run.specs.Runs.{RunStart}
+use Rattle.chain_run.proofs.KindLemmas.{rests-kept}
 use Rattle.chain_run.specs.Laws.{MachineLaws}
 use Rattle.chain_run.specs.StageLaws.{HasNews, HasWorked}
 use Rattle.chain_run.specs.StageLaws.Premise.{HeldSoFar}
@@ -63,7 +64,7 @@ module _ (laws : MachineLaws) (plan : CorePlan) (users : Rattle.chain_core.specs
   keeps_over rules input other (v ∷ vs) seen none run k = (laws.leaves plan (vs ++ seen) v users run).keeps rules input other (λ e. none.0 (sym e)) (keeps_over rules input other vs seen none.1 run.0 k)
 
 module _ {S K P : Type 0} (see : Seeing S K P) (begun : RunStart S K) where
-  module _ (laws : RunLaws see) (base : Ptr) (table : TableId) (old new : StageSeat) (part : StagePart S K P) (done : ℕ) (word : StageWord) (st : StandsAt see begun base table old part done word)
+  module _ (laws : RunLaws see) (base : Bases) (table : TableId) (old new : StageSeat) (part : StagePart S K P) (done : ℕ) (word : StageWord) (st : StandsAt see begun base table old part done word)
       (news : News) (w : Went (key_at begun base) old new done word news) where
     abbrev k : ℕ
     k = old.stage
@@ -229,7 +230,7 @@ module _ {S K P : Type 0} (see : Seeing S K P) (begun : RunStart S K) where
         work-in_range = let a = taken-now in let b = (laws.machine.hold plan now k st.run.valid.users w.run).taken_below in omega (arith, a, b)
 
         pub work-fits : length new.hand.cells ≤ new.hand.land.count
-        work-fits = subst (λ (l : Rattle.ts_land.specs.Pieces.Land). length new.hand.cells ≤ l.count) (sym w.hand_is.same)
+        work-fits = subst (λ (l : Rattle.cell_land.specs.Cells.CellLand). length new.hand.cells ≤ l.count) (sym w.hand_is.same)
             (let a = (laws.machine.hold plan now k st.run.valid.users w.run).taken_ahead in let b = (laws.machine.hold plan now k st.run.valid.users w.run).written_within st.is_stage in let c = count-now in omega (arith, a, b, c))
 
         module _ (seat3 : StageSeat) (part3 : StagePart S K P) (work : Work) (hw : HandWorks see part part3 new.hand seat3.hand news work) (same : seat3.seat ≡ new.seat) (stage3 : seat3.stage ≡ new.stage) where
@@ -260,7 +261,8 @@ module _ {S K P : Type 0} (see : Seeing S K P) (begun : RunStart S K) where
           content3 j e =
               let g : ℕ = length (s2.stages k).given in let A : List Cell = (s2.stages j).given in let m : ℕ = (s2.stages k).taken - (g + work.done) in
               let sum : (s2.stages k).taken - g ≡ work.done + m = let a = count-now in let c = hand-long in let d = few in let b = hw.same_length in omega (arith, a, c, d, b) in
-              ap (drop work.done) hw.cells_new ∙ (drop-append-le work.done hw.window_new hw.rest few ∙ (ap (λ (l : List Cell). l ++ hw.rest) worked.stage.rest
+              ap (drop work.done) hw.cells_new ∙ (drop-append-le work.done hw.window_new hw.rest few ∙ (ap (λ (l : List Cell). l ++ hw.rest) (rests-kept part part3 (drop work.done hw.window) (drop work.done hw.window_new) plan.plugins j worked.same_kind (let a = st.is_stage in omega (arith, a, e))
+              (λ lt. (going.plugin j (sym e) lt).kind) (λ last. (going.output (ap suc (sym last) ∙ sym e)).kind) worked.stage.rest)
               ∙ (sym (drop-append-le work.done hw.window hw.rest worked.stage.done) ∙ (ap (drop work.done) (sym hw.cells ∙ content-now j e)
               ∙ (ap (λ n. drop work.done (take n (drop g A))) sum ∙ (drop-take work.done m (drop g A) ∙ ap (take m) (drop-drop work.done g A)))))))
 
@@ -307,7 +309,7 @@ module _ {S K P : Type 0} (see : Seeing S K P) (begun : RunStart S K) where
               }
 
   -- a turn that was busy: all is as it was
-  module _ (laws : RunLaws see) (base : Ptr) (table : TableId) (old new : StageSeat) (holder : ℕ) (away : new.seat.me ≡ (at_rest (key_at begun base) old.stage (seen_of old) (holder ∷ busy_of old), [])) (hand : new.hand ≡ old.hand)
+  module _ (laws : RunLaws see) (base : Bases) (table : TableId) (old new : StageSeat) (holder : ℕ) (away : new.seat.me ≡ (at_rest (key_at begun base) old.stage (seen_of old) (holder ∷ busy_of old), [])) (hand : new.hand ≡ old.hand)
       (stage : new.stage ≡ old.stage) (of_table : new.seat.table_id ≡ old.seat.table_id) (part : StagePart S K P) (done : ℕ) (word : StageWord) (st : StandsAt see begun base table old part done word) where
     pub seen-still : seen_of new ≡ seen_of old
     seen-still = ap (λ me. seen_in me.0.held) away

@@ -1,6 +1,6 @@
 -- Stages of a row that are driven, in whatever threads. This project's own rule.
 use Rattle.std.specs.Prelude.{◌≡◌, List, [], ◌∷◌, Bool, true, false}
-use denote.RawPtr.{Ptr}
+use Rattle.cell_land.specs.declared.cell_window.Bases.{Bases}
 use Rattle.stage_run.specs.Seeing.{Seeing}
 use Rattle.chain_run.specs.Runs.{RunStart}
 use Rattle.atomic_table.specs.Seated.{TableId}
@@ -30,25 +30,25 @@ HaveEnded over stages = over ≡ true → Each (λ stage. stage.over ≡ true) s
 
 module _ {S K P : Type 0} (see : Seeing S K P) where
   -- a stage goes on or has ended, as it says
-  abbrev pub Holds : RunStart S K → Ptr → TableId → Stage S K P → Type 0
+  abbrev pub Holds : RunStart S K → Bases → TableId → Stage S K P → Type 0
   Holds begun base table stage = (stage.over ≡ false → Stands see begun base table stage)
       × (stage.over ≡ true → Ends see begun base table stage)
 
   module _ (ring : Ring) where
     -- the run of this ring began somehow, and the stage goes on or has ended in it
     unfoldable pub IsReady : Stage S K P → Type 0
-    IsReady stage = (begun : RunStart S K) × (base : Ptr) × (key_of ring ≡ key_at begun base)
+    IsReady stage = (begun : RunStart S K) × (base : Bases) × (key_of ring ≡ key_at begun base)
         × Holds begun base (table_of ring) stage
 
     -- and so does each stage of a row, in one run
     unfoldable pub AreReady : List (Stage S K P) → Type 0
-    AreReady stages = (begun : RunStart S K) × (base : Ptr) × (key_of ring ≡ key_at begun base)
+    AreReady stages = (begun : RunStart S K) × (base : Bases) × (key_of ring ≡ key_at begun base)
         × Each (Holds begun base (table_of ring)) stages
 
     -- it is the same stage, and however the run began, the stage keeps what it promises
     unfoldable pub Keeps : Stage S K P → Stage S K P → Type 0
     Keeps old new = (new.seat.stage ≡ old.seat.stage)
-        × ((begun : RunStart S K) (base : Ptr) → key_of ring ≡ key_at begun base
+        × ((begun : RunStart S K) (base : Bases) → key_of ring ≡ key_at begun base
         → Holds begun base (table_of ring) old → Holds begun base (table_of ring) new)
 
     -- each stage of a row is the same and keeps what it promises

@@ -1,6 +1,6 @@
 -- The stages of a run in threads when all of them have ended. This project's own rule.
 use Rattle.std.specs.Prelude.{◌≡◌, ℕ, suc, ◌+◌, ◌≤◌, List, length, slice_index_or}
-use denote.RawPtr.{Ptr}
+use Rattle.cell_land.specs.declared.cell_window.Bases.{Bases}
 use Rattle.atomic_table.specs.Seated.{TableId}
 use Rattle.stage_run.specs.Seeing.{Seeing}
 use Rattle.stage_run.specs.declared.stage_part.StagePart.{StagePart}
@@ -9,7 +9,7 @@ use Rattle.chain_run.specs.Ran.{IsValidRun}
 use Rattle.window_ring.specs.declared.stage_seat.StageSeat.{StageSeat}
 use Rattle.chain_threads.specs.Standing.{IsOver}
 
-module _ {S K P : Type 0} (see : Seeing S K P) (begun : RunStart S K) (base : Ptr) (table : TableId) where
+module _ {S K P : Type 0} (see : Seeing S K P) (begun : RunStart S K) (base : Bases) (table : TableId) where
   -- the seat and the part of stage `k`, which has ended
   pub record EndsAt (k : ℕ) (seat : StageSeat) (part : StagePart S K P) : Type 0 where
     pub stage : seat.stage ≡ k

@@ -1,6 +1,6 @@
 -- A stage with its seat in a ring: what it stands for between two turns. This project's own rule.
 use Rattle.std.specs.Prelude.{◌≡◌, ℕ, suc, ◌+◌, ◌-◌, ◌<◌, ◌≤◌, List, ◌++◌, length, take, drop, IsSome}
-use denote.RawPtr.{Ptr}
+use Rattle.cell_land.specs.declared.cell_window.Bases.{Bases}
 use Rattle.ts_packet.specs.declared.cell.Cell.{Cell}
 use Rattle.chain_model.specs.Apply.{StageList}
 use Rattle.chain_core.specs.declared.stage_word.StageWord.{StageWord}
@@ -23,7 +23,7 @@ use Rattle.window_ring.specs.Seats.{seen_of, IsSeat}
 use Rattle.window_ring.specs.OneRun.{KeptBy}
 
 -- what never changes of the ring of a run, whose block begins here
-abbrev pub key_at : {S K : Type 0} → RunStart S K → Ptr → Key
+abbrev pub key_at : {S K : Type 0} → RunStart S K → Bases → Key
 key_at begun base = record { plan = begun.plan; base = base }
 
 module _ {S K P : Type 0} (see : Seeing S K P) (begun : RunStart S K) where
@@ -63,7 +63,7 @@ module _ {S K P : Type 0} (see : Seeing S K P) (begun : RunStart S K) where
     pub kept : (input : StageList) → MayBe see begun part k lists input → KeptBy begun.plan begun.rules input k seen
 
   -- the same of a stage with its seat in this ring
-  pub record StandsAt (base : Ptr) (table : TableId) (seat : StageSeat) (part : StagePart S K P) (done : ℕ)
+  pub record StandsAt (base : Bases) (table : TableId) (seat : StageSeat) (part : StagePart S K P) (done : ℕ)
       (word : StageWord) : Type 0 where
     pub run : IsValidRun begun
     pub words : 0 < table.words
@@ -72,7 +72,7 @@ module _ {S K P : Type 0} (see : Seeing S K P) (begun : RunStart S K) where
     pub seat_is : IsSeat (key_at begun base) table seat
     pub standing : Standing seat.stage (seen_of seat) seat.hand part done word
 
-  pub record IsOver (base : Ptr) (table : TableId) (seat : StageSeat) (part : StagePart S K P) : Type 0 where
+  pub record IsOver (base : Bases) (table : TableId) (seat : StageSeat) (part : StagePart S K P) : Type 0 where
     pub run : IsValidRun begun
     pub is_stage : seat.stage ≤ suc begun.plan.plugins
     pub seat_is : IsSeat (key_at begun base) table seat

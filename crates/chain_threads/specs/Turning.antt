@@ -1,6 +1,6 @@
 -- A stage's work on the cells in its hands, and its turn. This project's own rule.
 use Rattle.std.specs.Prelude.{◌≡◌, ◌≢◌, ◌⊎◌, ℕ, suc, ◌<◌, ◌≤◌, ◌&&◌, List, [], ◌∷◌, ◌++◌, length, Bool, not, None, IsSome, if◌then◌else◌}
-use denote.RawPtr.{Ptr}
+use Rattle.cell_land.specs.declared.cell_window.Bases.{Bases}
 use Rattle.ts_packet.specs.declared.cell.Cell.{Cell}
 use Rattle.chain_model.specs.Apply.{StageList}
 use Rattle.chain_core.specs.declared.news.News.{News}
@@ -61,7 +61,7 @@ module _ {S K P : Type 0} (see : Seeing S K P) where
     pub some : window ≡ [] → hand.cells ≡ []
     pub worked : PartWork see old new hand.at news window window_new work
 
-  module _ (begun : RunStart S K) (base : Ptr) (table : TableId) where
+  module _ (begun : RunStart S K) (base : Bases) (table : TableId) where
     -- the stage goes on
     abbrev pub Stands : Stage S K P → Type 0
     Stands s = StandsAt see begun base table s.seat s.part s.done s.word

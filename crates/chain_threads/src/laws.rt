@@ -1,6 +1,6 @@
 //! The laws that the stages of a run in threads rest on. They run nothing.
 ghost use Rattle.std.specs.Prelude.{List};
-ghost use denote.RawPtr.{Ptr};
+ghost use Rattle.cell_land.specs.declared.cell_window.Bases.{Bases};
 ghost use Rattle.atomic_table.specs.Seated.{TableId};
 ghost use Rattle.chain_core.specs.declared.closed.Closed.{Closed};
 ghost use Rattle.stage_run.specs.Seeing.{seeing};
@@ -31,11 +31,11 @@ pub(crate) fn run_laws<S: Source, K: Sink, P: Plugin>()
 /// that have ended can be closed, and the close is that of one run, in which each part stands for its list. `any_run` of
 /// `chain_run` gives the result of this run. A law; it runs nothing.
 pub fn together<S: Source, K: Sink, P: Plugin>()
-    ensures whole { (begun : RunStart S K) (base : Ptr) (table : TableId) (seats : List StageSeat)
+    ensures whole { (begun : RunStart S K) (base : Bases) (table : TableId) (seats : List StageSeat)
         (parts : List (StagePart S K P))
         → AllHaveEnded (seeing S.seen K.seen P.rule P.stands_for P.preallocated) begun base table seats parts
         → IsWhole (key_at begun base) table seats }
-    ensures closed { (begun : RunStart S K) (base : Ptr) (table : TableId) (seats : List StageSeat)
+    ensures closed { (begun : RunStart S K) (base : Bases) (table : TableId) (seats : List StageSeat)
         (parts : List (StagePart S K P)) (closed : Closed)
         → let see = seeing S.seen K.seen P.rule P.stands_for P.preallocated in
         AllHaveEnded see begun base table seats parts → ClosedOf (key_at begun base) seats closed

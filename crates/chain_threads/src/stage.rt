@@ -54,11 +54,11 @@ fn work_in_hand<S: Source, K: Sink, P: Plugin, G: Gate>(
     let at = seat.position();
     match seat.lift_front() {
         None => HandWork {
-            work: part.work(stage, at, &mut [], news, gate),
+            work: part.work_on_none(at, news),
             empty: true,
         },
-        Some(mut window) => {
-            let work = part.work(stage, at, window.as_mut_slice(), news, gate);
+        Some(window) => {
+            let (work, window) = part.work(stage, at, window, news, gate);
             seat.put_front(window);
             HandWork { work, empty: false }
         }
@@ -86,7 +86,7 @@ impl<S, K, P> Stage<S, K, P> {
 
 impl<S: Source, K: Sink, P: Plugin> Stage<S, K, P> {
     ghost use Rattle.std.specs.Prelude.{◌≡◌, false};
-    ghost use denote.RawPtr.{Ptr};
+    ghost use Rattle.cell_land.specs.declared.cell_window.Bases.{Bases};
     ghost use Rattle.atomic_table.specs.Seated.{TableId};
     ghost use Rattle.stage_run.specs.Seeing.{seeing};
     ghost use Rattle.chain_run.specs.Runs.{RunStart, nothing_told};
@@ -102,7 +102,7 @@ impl<S: Source, K: Sink, P: Plugin> Stage<S, K, P> {
         ensures done { result.done ≡ 0 }
         ensures word { result.word ≡ nothing_told }
         ensures over { result.over ≡ false }
-        ensures stands { (begun : RunStart S K) (base : Ptr) (table : TableId)
+        ensures stands { (begun : RunStart S K) (base : Bases) (table : TableId)
             → let see = seeing S.seen K.seen P.rule P.stands_for P.preallocated in
             IsNewStage see begun base table part seat → Stands see begun base table result }
     {
@@ -124,9 +124,9 @@ impl<S: Source, K: Sink, P: Plugin> Stage<S, K, P> {
     ///
     /// The stage has not ended. Nothing is allocated but what a plugin takes.
     pub fn turn<G: Gate>(&mut self, ring: &Ring, gate: &G) -> Turn
-        requires { (begun : RunStart S K) × (base : Ptr) × (key_of ring.now ≡ key_at begun base)
+        requires { (begun : RunStart S K) × (base : Bases) × (key_of ring.now ≡ key_at begun base)
             × Stands (seeing S.seen K.seen P.rule P.stands_for P.preallocated) begun base (table_of ring.now) self.old }
-        ensures behind { (begun : RunStart S K) (base : Ptr) → key_of ring.now ≡ key_at begun base
+        ensures behind { (begun : RunStart S K) (base : Bases) → key_of ring.now ≡ key_at begun base
             → let see = seeing S.seen K.seen P.rule P.stands_for P.preallocated in
             Stands see begun base (table_of ring.now) self.old
             → Behind see begun base (table_of ring.now) result self.old self.new }

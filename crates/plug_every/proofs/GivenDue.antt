@@ -1,14 +1,13 @@
 -- The lines that are given out from one mark up to another, due packet by due packet.
-use Rattle.std.proofs.Common.{◌≡◌, ℕ, ◌+◌, ◌<◌, ◌≤◌, List, [], ◌∷◌, ◌++◌, length, take, drop, Bool, Result, Ok, Err, is_ok, if◌then◌else◌, refl, ap, sym, subst, ◌∙◌, arith, append_assoc, append-nil}
+use Rattle.std.proofs.Common.{◌≡◌, ℕ, ◌+◌, ◌<◌, ◌≤◌, List, [], ◌∷◌, ◌++◌, length, take, Bool, Result, Ok, Err, is_ok, if◌then◌else◌, refl, ap, sym, subst, ◌∙◌, arith, append_assoc}
 use Rattle.std.specs.Result.{OnOk}
 use Rattle.std.specs.declared.alloc.AllocError.{AllocError}
-use Rattle.std.proofs.lemmas.List.{drop-take}
 use Rattle.ts_packet.specs.declared.cell.Cell.{Cell}
 use Rattle.chain_model.specs.PluginRule.{PluginRule}
-use Rattle.plugin_trait.specs.PlacedLines.{placed_at, placed_after, placed_between}
+use Rattle.plugin_trait.specs.PlacedLines.{placed_at, placed_between}
 use Rattle.plugin_trait.specs.declared.line.Line.{Line}
 use Rattle.plugin_trait.proofs.Giving.{joined}
-use Rattle.plugin_notes.specs.NotesKept.{KeepsNotes, StartsFrom}
+use Rattle.plugin_notes.specs.NotesKept.{StartsFrom}
 use Rattle.plugin_notes.proofs.Keeping.{keeps_left}
 use Rattle.plug_every.specs.EveryRule.{every_rule, summed_up}
 use Rattle.plug_every.specs.EveryStands.{NotesDue}
@@ -25,22 +24,6 @@ pub record IsGiven (rule : PluginRule) (stands : List Cell → ℕ → Type 0) (
   pub low : mark ≤ to
   pub high : to ≤ written
   pub lines_are : lines ≡ before ++ placed_between (every_rule n counts rule) history mark to
-
--- at one mark there is nothing between
-placed_none : (rule : PluginRule) (history : List Cell) (mark : ℕ) → placed_between rule history mark mark ≡ []
-placed_none rule history mark =
-    ap (λ (cells : List Cell). placed_after rule (take mark history) cells)
-    (ap (λ (k : ℕ). drop mark (take k history)) (let e : mark ≡ mark + 0 = omega arith in e) ∙ drop-take mark 0 history)
-
-pub begins_given : (rule : PluginRule) (stands : List Cell → ℕ → Type 0) (n : ℕ) (counts : Bool) (due : List Due) (history : List Cell) (mark written : ℕ) (lines : List Line)
-    → NotesDue stands n due history mark → mark ≤ written → IsGiven rule stands n counts due history mark written lines lines
-begins_given rule stands n counts due history mark written lines is le = record {
-  to = mark;
-  is = is;
-  low = omega arith;
-  high = le;
-  lines_are = sym (append-nil lines) ∙ ap (λ (more : List Line). lines ++ more) (sym (placed_none (every_rule n counts rule) history mark));
-}
 
 module _ (rule now : PluginRule) (same : now ≡ rule) (stands after : List Cell → ℕ → Type 0) (n : ℕ) (counts : Bool) (history : List Cell) (mark written : ℕ) (before lines : List Line) where
   -- up to a due packet and with it

@@ -1,9 +1,10 @@
 //! A plugin that may have its summary at each so-many-th packet too.
 
 use crate::every_plugin::EveryPlugin;
+use cell_rows::Mark;
 use plugin_trait::{Applied, Line, Outcome, Plugin};
 use std::alloc::{AllocError, Global};
-use ts_packet::{Cell, Labels, Packet};
+use ts_packet::{Labels, Packet};
 
 /// A plugin as it is, or with its summary so far at each so-many-th packet.
 ///
@@ -83,8 +84,14 @@ impl<P: Plugin + Drop> Plugin for MaybeEvery<P> {
         either!(self, plugin => plugin.pass_over(at))
     }
 
-    fn steps(&mut self, at: u64, cells: &mut [Cell], noted: &mut bool) -> Applied {
-        either!(self, plugin => plugin.steps(at, cells, noted))
+    fn steps(
+        &mut self,
+        at: u64,
+        packets: &mut [Packet],
+        marks: &mut [Mark],
+        noted: &mut bool,
+    ) -> Applied {
+        either!(self, plugin => plugin.steps(at, packets, marks, noted))
     }
 
     fn note(&mut self, written: u64, lines: &mut Vec<Line>) -> Result<(), AllocError> {

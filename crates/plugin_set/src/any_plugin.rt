@@ -15,12 +15,13 @@ use crate::idle::{Idle, why_idle};
 use crate::masked_plugin::MaskedPlugin;
 use crate::sees_tables::{SeesTables, add_changes};
 use crate::some_plugin::SomePlugin;
+use cell_rows::Mark;
 use plug_every::MaybeEvery;
 use plug_psi::Changes;
 use plugin_settings::PluginItem;
 use plugin_trait::{Applied, Line, Outcome, Plugin};
 use std::alloc::{AllocError, Global};
-use ts_packet::{Cell, Labels, Packet};
+use ts_packet::{Labels, Packet};
 use ts_section::Section;
 
 /// A plugin of the chain. It sees every packet, or only those that have one of its labels.
@@ -93,10 +94,16 @@ impl Plugin for AnyPlugin {
     }
 
     // A plugin that sees every packet takes the whole window in one call.
-    fn steps(&mut self, at: u64, cells: &mut [Cell], noted: &mut bool) -> Applied {
+    fn steps(
+        &mut self,
+        at: u64,
+        packets: &mut [Packet],
+        marks: &mut [Mark],
+        noted: &mut bool,
+    ) -> Applied {
         match self.masked.only {
-            None => self.masked.plugin.steps(at, cells, noted),
-            Some(_) => self.masked.steps(at, cells, noted),
+            None => self.masked.plugin.steps(at, packets, marks, noted),
+            Some(_) => self.masked.steps(at, packets, marks, noted),
         }
     }
 

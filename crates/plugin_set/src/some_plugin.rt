@@ -3,6 +3,7 @@
 ghost use Rattle.std.specs.Prelude.{◌≡◌, IfOk, []};
 ghost use Rattle.plugin_settings.specs.Plugins.{is_silent, rule_of, preallocated_of};
 
+use cell_rows::Mark;
 use plug_analyze::Analyze;
 use plug_edit::{
     EditCat, EditNit, EditPat, EditPmt, EditSdt, new_edit_cat, new_edit_nit, new_edit_pat,
@@ -27,7 +28,7 @@ use plug_window::{Compact, Rmorphan, new_compact, new_rmorphan};
 use plugin_settings::PluginConf;
 use plugin_trait::{Applied, Line, Outcome, Plugin};
 use std::alloc::{AllocError, Global};
-use ts_packet::{Cell, Labels, Packet};
+use ts_packet::{Labels, Packet};
 use ts_section::Section;
 
 /// A plugin of any kind, to which each cell is shown.
@@ -303,8 +304,14 @@ impl Plugin for SomePlugin {
         each_plugin!(self, plugin => plugin.pass_over(at))
     }
 
-    fn steps(&mut self, at: u64, cells: &mut [Cell], noted: &mut bool) -> Applied {
-        each_plugin!(self, plugin => plugin.steps(at, cells, noted))
+    fn steps(
+        &mut self,
+        at: u64,
+        packets: &mut [Packet],
+        marks: &mut [Mark],
+        noted: &mut bool,
+    ) -> Applied {
+        each_plugin!(self, plugin => plugin.steps(at, packets, marks, noted))
     }
 
     fn note(&mut self, written: u64, lines: &mut Vec<Line>) -> Result<(), AllocError> {

@@ -1,6 +1,7 @@
 -- A plugin in the middle of a list: what was made, and then what the rule makes of the rest.
 use Rattle.std.proofs.Common.{◌≡◌, ℕ, ◌+◌, ◌<◌, List, [], ◌∷◌, ◌++◌, length, take, drop, get_or, set, ap, sym, subst, ◌∙◌, ◌⊎◌, inl, inr, append_assoc, append-nil, add-zero, drop-drop, arith, None, Some, ◌≤◌}
-use Rattle.std.proofs.lemmas.List.{drop_all, drop_more, set-get_or, take_more, take_more_set, take-set, get_or-drop, drop-set-lt}
+use Rattle.std.proofs.lemmas.List.{drop_all, drop_more, set-get_or, take_more, take_more_set, take-set, get_or-drop, drop-set-lt, get_or_default}
+use Rattle.ts_packet.specs.Cells.{Dropped}
 use Rattle.ts_packet.specs.declared.cell.Cell.{Cell}
 use Rattle.plugin_trait.specs.declared.outcome.Outcome.{Outcome}
 use Rattle.plugin_trait.specs.declared.outcome.Outcome.TheVariants.{Pass, Drop}
@@ -89,10 +90,6 @@ pub same_after : (xs ys : List Cell) (i : ℕ) (left : Cell) → drop i xs ≡ d
 same_after xs ys i left same =
     drop-set-lt (i + 1) xs i left (omega arith) ∙ (sym (drop-drop 1 i xs) ∙ (ap (drop 1) same ∙ drop-drop 1 i ys))
 
--- the cell at a place, read in the one list, is that of the other
-pub read_at : (xs ys : List Cell) (i : ℕ) (d : Cell) → d ≡ get_or xs i d → drop i xs ≡ drop i ys → get_or ys i (get_or xs i d) ≡ get_or xs i d
-read_at xs ys i d is same = ap (λ (e : Cell). get_or ys i e) (sym is) ∙ sym (same_at xs ys i d same)
-
 -- and from that place on nothing is changed where what was there is put back
 pub left_as_it_was : (xs ys : List Cell) (i : ℕ) (d left : Cell) → left ≡ get_or xs i d → drop i xs ≡ drop i ys → drop i (set xs i left) ≡ drop i ys
 left_as_it_was xs ys i d left back same = ap (λ (x : Cell). drop i (set xs i x)) back ∙ (ap (drop i) (set-get_or xs i d) ∙ same)
@@ -105,3 +102,7 @@ half_through rule history given made i all past same within half =
     let known = half ∙ ap (λ (rest : List Cell). behind (take i made) (apply_after rule (history ++ take i given) rest)) (drop_all i given past) in
     let whole : take (length made) made ≡ take i made = ap (λ (n : ℕ). take n made) (omega arith) in
     (whole ∙ sym (ap (λ (s : StageList). s.cells) known ∙ append-nil (take i made)), ap (λ (s : StageList). s.ended) known)
+
+-- the cell in a slot, read in the one list, is that of the other
+pub reads : (xs ys : List Cell) (i : ℕ) → i < length ys → drop i xs ≡ drop i ys → get_or ys i (get_or xs i Dropped) ≡ get_or xs i Dropped
+reads xs ys i within same = get_or_default ys i (get_or xs i Dropped) Dropped within ∙ sym (same_at xs ys i Dropped same)

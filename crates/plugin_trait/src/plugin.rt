@@ -4,6 +4,7 @@
 //! own `step` in it: so the kind of the plugin, and whether it has labels, is asked once a window and not at each
 //! packet. A plugin may write a `steps` of its own, and then owes the same clauses.
 //!
+//! Cells come as two rows, of packets and of their marks, so that packets can be read and written where they lie.
 //! A step takes the packet and its labels, and not the cell: that a dropped cell stays dropped, and that `Drop` leaves
 //! one, is written once in `meet`, and no plugin can get it wrong. A position whose packet was dropped before is met by
 //! `pass_over`, which is empty in every plugin so far; no body in the trait could show that of every type.
@@ -18,10 +19,11 @@
 //! the notes that it had, and has given out none. It may forget what it noted before the mark, so it is given no cut
 //! below the last one.
 
-use crate::driver::note_agreement;
+use crate::driver::{after, note_agreement};
 use crate::{Applied, Line, ListEnd, Outcome};
+use cell_rows::Mark;
 use std::alloc::AllocError;
-use ts_packet::{Cell, Labels, Packet};
+use ts_packet::{Labels, Packet};
 
 /// A plugin of the chain. It means a rule, a function of the whole history of the cells that it met.
 ///
@@ -29,9 +31,10 @@ use ts_packet::{Cell, Labels, Packet};
 /// it was given. It is a relation, since the value keeps less than the list: a call asks for one list
 /// and mark that the value stands for, and what it promises holds for each.
 pub trait Plugin {
-    ghost use Rattle.std.specs.Prelude.{◌≡◌, ◌≢◌, ◌<◌, ◌+◌, ◌≤◌, ℕ, List, [], ◌++◌, Bool, true, false, Option, Some, IsOk, OnOk, IsSome, is_some, take, drop, length};
+    ghost use Rattle.std.specs.Prelude.{◌≡◌, ◌≢◌, ◌<◌, ◌+◌, ◌≤◌, ℕ, List, [], ◌++◌, Bool, true, false, Option, Some, IsOk, OnOk, IsSome, is_some, take, drop, length, slice_set, slice_index_or};
     ghost use Rattle.ts_packet.specs.declared.cell.Cell.{Cell};
     ghost use Rattle.ts_packet.specs.Cells.{Live, Dropped};
+    ghost use Rattle.cell_rows.specs.Cells.{cells_of};
     ghost use Rattle.chain_model.specs.declared.positions.TheConstants.{POSITION_LIMIT};
     ghost use Rattle.chain_model.specs.Apply.{apply_after};
     ghost use Rattle.chain_model.specs.Joint.{agreement_of};
@@ -78,29 +81,35 @@ pub trait Plugin {
         ensures same_preallocated { preallocated self.new ≡ preallocated self.old }
         ensures same_silent { silent self.new ≡ silent self.old };
 
-    /// Takes the cell at a position, and leaves in it what the plugin makes of it: by a step where it has a packet.
+    /// Takes the cell in a slot, which has a position, and leaves in it what the plugin makes of it: by a step where it has
+    /// a packet.
     // Inlined always: otherwise the loop of `steps` has a call for each cell.
     #[inline(always)]
-    fn meet(&mut self, at: u64, cell: &mut Cell) -> Outcome
+    fn meet(&mut self, at: u64, packets: &mut [Packet], marks: &mut [Mark], slot: usize) -> Outcome
         requires met { MeetsCells (stands_for self.old) at }
         requires in_range { at < POSITION_LIMIT }
-        ensures tells { Tells (rule self.old) (stands_for self.old) at cell.old result cell.new }
-        ensures dropped { cell.old ≡ Dropped → result ≡ Outcome.Pass }
-        ensures meets { Meets (stands_for self.old) (stands_for self.new) at cell.old result }
+        requires within { slot < length packets.old }
+        requires long { length marks.old ≡ length packets.old }
+        ensures cells { cells_of packets.new marks.new ≡ slice_set (cells_of packets.old marks.old) slot
+            (slice_index_or (cells_of packets.new marks.new) slot Dropped) }
+        ensures tells { Tells (rule self.old) (stands_for self.old) at
+            (slice_index_or (cells_of packets.old marks.old) slot Dropped) result
+            (slice_index_or (cells_of packets.new marks.new) slot Dropped) }
+        ensures meets { Meets (stands_for self.old) (stands_for self.new) at
+            (slice_index_or (cells_of packets.old marks.old) slot Dropped) result }
         ensures same_rule { rule self.new ≡ rule self.old }
         ensures same_preallocated { preallocated self.new ≡ preallocated self.old }
         ensures same_silent { silent self.new ≡ silent self.old }
         ensures room { HasRoom (preallocated self.old) (stands_for self.old) at → result ≢ Outcome.NoMemory }
     {
-        let Some(live) = cell.live_mut() else {
-            self.pass_over(at);
-            return Outcome::Pass;
-        };
-        let outcome = self.step(at, &mut live.packet, &mut live.labels);
-        if outcome == Outcome::Drop {
-            cell.drop_packet();
+        let mut mark = marks[slot];
+        if mark.is_live {
+            let outcome = self.step(at, &mut packets[slot], &mut mark.labels);
+            marks[slot] = after(mark, outcome);
+            return outcome;
         }
-        outcome
+        self.pass_over(at);
+        Outcome::Pass
     }
 
     /// Takes the cells from a position on, in place, until the plugin ends its list.
@@ -108,39 +117,47 @@ pub trait Plugin {
     /// The cells after the plugin's own list are as they were. `noted` says whether the plugin agreed before; where it
     /// did not, its agreement is returned and noted. It runs out of memory only where the plugin made no room for the
     /// notes on all these cells.
-    fn steps(&mut self, at: u64, cells: &mut [Cell], noted: &mut bool) -> Applied
+    fn steps(
+        &mut self,
+        at: u64,
+        packets: &mut [Packet],
+        marks: &mut [Mark],
+        noted: &mut bool,
+    ) -> Applied
         requires met { MeetsCells (stands_for self.old) at }
-        requires in_range { at + length cells.old ≤ POSITION_LIMIT }
-        ensures count { result.count ≤ length cells.old }
-        ensures rest { drop result.count cells.new ≡ drop result.count cells.old }
+        requires in_range { at + length packets.old ≤ POSITION_LIMIT }
+        requires long { length marks.old ≡ length packets.old }
+        ensures count { result.count ≤ length packets.old }
+        ensures rest { drop result.count (cells_of packets.new marks.new)
+            ≡ drop result.count (cells_of packets.old marks.old) }
         ensures makes { (history : List Cell) (mark : ℕ) → stands_for self.old history mark
             → length history ≡ at
-            → Makes (apply_after (rule self.old) history cells.old) (take result.count cells.new) result.end }
+            → Makes (apply_after (rule self.old) history (cells_of packets.old marks.old))
+            (take result.count (cells_of packets.new marks.new)) result.end }
         ensures far { (history : List Cell) (mark : ℕ) → stands_for self.old history mark
             → length history ≡ at
-            → apply_after (rule self.old) history (take result.count cells.old)
-            ≡ made_so_far (take result.count cells.new) result.end }
+            → apply_after (rule self.old) history (take result.count (cells_of packets.old marks.old))
+            ≡ made_so_far (take result.count (cells_of packets.new marks.new)) result.end }
         ensures met { (history : List Cell) (mark : ℕ) → stands_for self.old history mark
             → length history ≡ at
-            → stands_for self.new (history ++ take result.count cells.old) mark }
+            → stands_for self.new (history ++ take result.count (cells_of packets.old marks.old)) mark }
         ensures agreed { (history : List Cell) (mark : ℕ) → stands_for self.old history mark
             → length history ≡ at
             → noted.old ≡ is_some (agreement_of (rule self.old) history)
-            → TellsAgreement (rule self.old) (history ++ take result.count cells.old)
+            → TellsAgreement (rule self.old) (history ++ take result.count (cells_of packets.old marks.old))
             at result.agreed noted.new }
         ensures same_rule { rule self.new ≡ rule self.old }
         ensures same_preallocated { preallocated self.new ≡ preallocated self.old }
         ensures same_silent { silent self.new ≡ silent self.old }
-        ensures room { HasRoomFor (preallocated self.old) (stands_for self.old) at (length cells.old)
+        ensures room { HasRoomFor (preallocated self.old) (stands_for self.old) at (length packets.old)
             → result.end ≢ ListEnd.NoMemory }
     {
         let mut agreed = None;
-        for (i, cell) in cells.iter_mut().enumerate() {
-            let end = match self.meet(at + i as u64, cell) {
+        for i in 0..packets.len() {
+            match self.meet(at + i as u64, packets, marks, i) {
                 Outcome::Pass | Outcome::Drop => {
                     let agrees = self.agreed();
                     agreed = agreed.or(note_agreement(agrees, noted, at + i as u64 + 1));
-                    continue;
                 }
                 Outcome::Last => {
                     let agrees = self.agreed();
@@ -151,18 +168,32 @@ pub trait Plugin {
                         end: ListEnd::Last,
                     };
                 }
-                Outcome::Stop => ListEnd::Stop,
-                Outcome::Refuse(reason) => ListEnd::Refuse(reason),
-                Outcome::NoMemory => ListEnd::NoMemory,
-            };
-            return Applied {
-                count: i,
-                agreed,
-                end,
-            };
+                // Each by itself: where the arms join, the proof loses the cells before.
+                Outcome::Stop => {
+                    return Applied {
+                        count: i,
+                        agreed,
+                        end: ListEnd::Stop,
+                    };
+                }
+                Outcome::Refuse(reason) => {
+                    return Applied {
+                        count: i,
+                        agreed,
+                        end: ListEnd::Refuse(reason),
+                    };
+                }
+                Outcome::NoMemory => {
+                    return Applied {
+                        count: i,
+                        agreed,
+                        end: ListEnd::NoMemory,
+                    };
+                }
+            }
         }
         Applied {
-            count: cells.len(),
+            count: packets.len(),
             agreed,
             end: ListEnd::Through,
         }

@@ -1,39 +1,33 @@
--- Windows of cells, of which the first were changed.
-use Rattle.std.proofs.Common.{◌≡◌, ℕ, ◌+◌, ◌≤◌, List, [], ◌++◌, length, take, drop, set, ap, sym, ◌∙◌, arith, subst, append-nil, length-take, length-drop, drop_at}
+-- Rows of packets and marks, of which the last were changed.
+use Rattle.std.proofs.Common.{◌≡◌, ℕ, ◌+◌, ◌≤◌, List, ◌++◌, length, take, ap, sym, ◌∙◌, arith, subst, length-take}
 use Rattle.std.proofs.Math.Seq.{take-append-add}
-use Rattle.std.proofs.lemmas.List.{drop-set-lt, drop-drop, take_all, nil_from_length, take-append-le}
+use Rattle.std.proofs.lemmas.List.{take-append-le}
 use Rattle.std.proofs.lemmas.Grind.{common_steps}
 use borrow.Rule.Slice.PartMut.{put_mid, post_of}
 use Rattle.ts_packet.specs.declared.cell.Cell.{Cell}
+use Rattle.cell_rows.specs.declared.mark.Mark.{Mark}
+use Rattle.cell_rows.specs.Cells.{cells_of}
+use Rattle.cell_rows.proofs.CellLemmas.{cells_take, cells_append}
 
--- the cells after a place stay what they were when the one at the place is changed
-pub same_after : (xs ys : List Cell) (i : ℕ) (cell : Cell) → drop i xs ≡ drop i ys → drop (i + 1) (set xs i cell) ≡ drop (i + 1) ys
-same_after xs ys i cell same =
-    drop-set-lt (i + 1) xs i cell (omega arith) ∙ (sym (drop-drop 1 i xs) ∙ (ap (drop 1) same ∙ drop-drop 1 i ys))
+-- the first ones of a row of which all after the first `a` were written: those, and the first that were written
+pub take-written : {T : Type 0} (a k n : ℕ) (xs part : List T) → a + k ≡ length xs → n ≤ length part
+    → take (a + n) (put_mid a k xs part) ≡ take a xs ++ take n part
+take-written a k n xs part all few =
+    let long : length (take a xs) ≡ a = omega (arith, length-take a xs) in
+    subst (λ (m : ℕ). take (m + n) (put_mid a k xs part) ≡ take a xs ++ take n part) long
+    (take-append-add (take a xs) (part ++ post_of a k xs) n
+    ∙ ap (λ (rest : List _). take a xs ++ rest) (take-append-le n part (post_of a k xs) few))
 
--- the first cells of a window of which all after the first `a` were written: those, and the first that were written
-pub take-written : (a k n : ℕ) (cells part : List Cell) → a + k ≡ length cells → n ≤ length part
-    → take (a + n) (put_mid a k cells part) ≡ take a cells ++ take n part
-take-written a k n cells part all few =
-    let long : length (take a cells) ≡ a = omega (arith, length-take a cells) in
-    subst (λ (m : ℕ). take (m + n) (put_mid a k cells part) ≡ take a cells ++ take n part) long
-    (take-append-add (take a cells) (part ++ post_of a k cells) n
-    ∙ ap (λ (rest : List Cell). take a cells ++ rest) (take-append-le n part (post_of a k cells) few))
+pub length-written : {T : Type 0} (a k : ℕ) (xs part : List T) → a + k ≡ length xs → length part ≡ k → length (put_mid a k xs part) ≡ length xs
+length-written a k xs part all long = grind (arith, common_steps)
 
-pub length-written : (a k : ℕ) (cells part : List Cell) → a + k ≡ length cells → length part ≡ k → length (put_mid a k cells part) ≡ length cells
-length-written a k cells part all long = grind (arith, common_steps)
-
--- and the last ones, where the last that were written are as they were
-pub drop-written : (a k n : ℕ) (cells part : List Cell) → a + k ≡ length cells → drop n part ≡ drop n (take k (drop a cells))
-    → drop (a + n) (put_mid a k cells part) ≡ drop (a + n) cells
-drop-written a k n cells part all same =
-    let long : length (take a cells) ≡ a = omega (arith, length-take a cells) in
-    let none : post_of a k cells ≡ [] = nil_from_length (drop k (drop a cells)) (omega (arith, length-drop k (drop a cells), length-drop a cells)) in
-    let behind : length (drop a cells) ≤ k = omega (arith, length-drop a cells) in
-    sym (drop-drop n a (put_mid a k cells part))
-    ∙ ap (drop n) (drop_at (take a cells) (part ++ post_of a k cells) a long)
-    ∙ ap (λ (l : List Cell). drop n (part ++ l)) none
-    ∙ ap (drop n) (append-nil part)
-    ∙ same
-    ∙ ap (drop n) (take_all k (drop a cells) behind)
-    ∙ drop-drop n a cells
+-- and their cells
+pub cells-written : (a k j n : ℕ) (ps qs : List (List ℕ)) (ms ns : List Mark) → a + k ≡ length ps → a + j ≡ length ms → length ms ≡ length ps → n ≤ length qs → n ≤ length ns
+    → take (a + n) (cells_of (put_mid a k ps qs) (put_mid a j ms ns)) ≡ take a (cells_of ps ms) ++ take n (cells_of qs ns)
+cells-written a k j n ps qs ms ns all_ps all_ms long few_qs few_ns =
+    cells_take (a + n) (put_mid a k ps qs) (put_mid a j ms ns)
+    ∙ ap (λ (l : List (List ℕ)). cells_of l (take (a + n) (put_mid a j ms ns))) (take-written a k n ps qs all_ps few_qs)
+    ∙ ap (cells_of (take a ps ++ take n qs)) (take-written a j n ms ns all_ms few_ns)
+    ∙ cells_append (take a ps) (take n qs) (take a ms) (take n ns) (let x = length-take a ps in let y = length-take a ms in omega (arith, x, y, long))
+    ∙ ap (λ (l : List Cell). l ++ cells_of (take n qs) (take n ns)) (sym (cells_take a ps ms))
+    ∙ ap (λ (l : List Cell). take a (cells_of ps ms) ++ l) (sym (cells_take n qs ns))

@@ -20,7 +20,7 @@ use Rattle.stage_run.specs.declared.input_stage.InputStage.{InputStage}
 use Rattle.stage_run.specs.PartLists.{PartLists}
 use Rattle.stage_run.specs.GeneratedInput.{input_of_generated}
 use Rattle.stage_run.proofs.GeneratedLemmas.{length-generated}
-use Rattle.stage_run.specs.Feeds.{FeedStands, FeedLooks, FeedPuts, FeedPutsAll, SameFeed, StandsAtSource, packets_put, hand_of, live_cells}
+use Rattle.stage_run.specs.Feeds.{FeedStands, FeedLooks, FeedPuts, FeedPutsAll, FeedReads, SameFeed, StandsAtSource, packets_put, hand_of, live_cells}
 use Rattle.stage_run.specs.InputStands.{InputHolds, FeedGives, MayGive, stuffing_of, stuffed_so_far}
 use Rattle.stage_run.specs.InputSteps.{InputGoes, IsOver, IsFilled, cell_put, with_more, stop_count, null_count}
 
@@ -283,6 +283,55 @@ module _ {S : Type 0} (seen : S → SourceView) where
       ∙ ap (λ (l : List Cell). before ++ l) (sym none) in
       InputGoes-behind old feed old.nulls lists wanted cells found.put no_nulls unknown holds found.same found.stands more_is
       (sym (length-live_cells found.put) ∙ ap length (sym found.are_put))
+
+  -- an input of which nothing was read
+  pub FeedReads-none : (feed : PacketFeed S) (wanted : ℕ) (first : SourceView) (read : List ℕ) (rows : List (List ℕ))
+      → FeedStands seen feed first read rows None → FeedReads seen feed feed wanted first read rows [] None
+  FeedReads-none feed wanted first read rows stands = record {
+    same = SameFeed-same feed;
+    bytes = [];
+    stands = subst (λ (r : List ℕ). FeedStands seen feed first r (rows ++ []) None) (sym (append-nil read))
+        (subst (λ (l : List (List ℕ)). FeedStands seen feed first read l None) (sym (append-nil rows)) stands);
+    reads = λ most within fits. subst (λ (r : List ℕ). length r ≤ 188 * most) (sym (append-nil read)) within;
+  }
+
+  -- packets that were read straight into a window, between which no null packets stand
+  pub InputGoes-read : (old : InputStage S) (feed : PacketFeed S) (nulls : ℕ) (ended : Option InputEnd) (lists : PartLists) (wanted : ℕ) (put : List (List ℕ))
+      → old.stuffing.null ≡ 0 → old.nulls ≡ 0 → old.ended ≡ None → nulls ≡ stop_count ended old.stuffing.stop → InputHolds seen old lists
+      → ((first : SourceView) (read : List ℕ) (rows : List (List ℕ)) → FeedStands seen old.feed first read rows None → FeedReads seen old.feed feed wanted first read rows put ended)
+      → InputGoes seen old (record { feed = feed; stuffing = old.stuffing; nulls = nulls; ended = ended }) lists wanted (live_cells put)
+  InputGoes-read old feed nulls ended lists wanted put no_null no_nulls unknown due holds reads =
+      let was : FeedStands seen old.feed lists.source lists.read holds.rows None =
+      subst (λ (e : Option InputEnd). FeedStands seen old.feed lists.source lists.read holds.rows e) unknown holds.feed in
+      let found = reads lists.source lists.read holds.rows was in
+      let stuffing : model.Stuffing = stuffing_of old.stuffing in
+      let rows : List (List ℕ) = holds.rows ++ put in
+      let given_is : lists.given ≡ stuffed_so_far stuffing holds.rows None =
+      sym (append-nil lists.given)
+      ∙ ap (λ (n : ℕ). lists.given ++ null_cells n) (sym no_nulls)
+      ∙ holds.cells
+      ∙ ap (λ (e : Option InputEnd). stuffed_so_far stuffing holds.rows e) unknown in
+      let put_is : lists.given ++ live_cells put ≡ stuffed_so_far stuffing rows None =
+      ap (λ (l : List Cell). l ++ live_cells put) given_is
+      ∙ append_assoc (null_cells stuffing.start) (stuffed_after stuffing 0 holds.rows) (live_cells put)
+      ∙ ap (λ (l : List Cell). null_cells stuffing.start ++ l) (sym (stuffed_after-append stuffing 0 holds.rows put no_null)) in
+      record {
+        same = found.same;
+        bytes = found.bytes;
+        holds = record {
+          rows = rows;
+          feed = found.stands;
+          cells = ap (λ (l : List Cell). l ++ null_cells nulls) put_is
+              ∙ ap (λ (n : ℕ). stuffed_so_far stuffing rows None ++ null_cells n) due
+              ∙ stuffed-stop stuffing rows ended;
+          put = let before = holds.put in omega (arith, length-append lists.given (live_cells put), length-append holds.rows put, length-live_cells put);
+          every = holds.every;
+        };
+        gives = λ input gives.
+            subst (λ (e : Option InputEnd). FeedGives seen old.feed stuffing lists.read e input) (sym unknown)
+            (FeedGives-before old.feed feed stuffing lists.source lists.read found.bytes holds.rows rows ended found.same was found.stands input gives);
+        reads = λ most within fits. let before = holds.put in found.reads most within (omega arith);
+      }
 
   -- an input as it was
   abbrev pub InputGoes-none : (old : InputStage S) (lists : PartLists) (wanted : ℕ) → InputHolds seen old lists → InputGoes seen old old lists wanted []

@@ -1,5 +1,5 @@
 -- An input's work, put together from what it read and gave.
-use Rattle.std.proofs.Common.{◌≡◌, ◌≢◌, ℕ, ◌+◌, ◌*◌, ◌^◌, ◌<◌, ◌≤◌, if◌then◌else◌, Bool, true, false, List, [], ◌∷◌, ◌++◌, length, take, refl, ap, sym, ◌∙◌, arith, append-nil, length-append, length-take, subst, Option, None, Some, ◌⊎◌, inl, inr, le_trans}
+use Rattle.std.proofs.Common.{◌≡◌, ◌≢◌, ℕ, ◌+◌, ◌*◌, ◌^◌, ◌<◌, ◌≤◌, if◌then◌else◌, Bool, true, false, List, [], ◌++◌, length, take, refl, ap, sym, ◌∙◌, arith, append-nil, length-append, length-take, subst, Option, None, Some, ◌⊎◌, inl, inr, le_trans}
 use Rattle.std.specs.List.{concat}
 use Rattle.std.proofs.lemmas.Bool.{cond-true, cond-false, eq-eqb, ne_eqb, cases_eq}
 use Rattle.std.proofs.Math.Nat.{mul-le-mul_left}
@@ -23,8 +23,7 @@ use Rattle.stage_run.specs.InputSteps.{InputGoes, IsOver, FillsWindow, EndsAtLim
 use Rattle.stage_run.specs.Telling.{may_follow, followed}
 use Rattle.stage_run.specs.Works.{Works, InputWorks, InputTells, FaultsTold, source_faults, read_for}
 use Rattle.stage_run.specs.PartStands.{MayWork}
-use Rattle.stage_run.specs.Rows.{IsUnfinished}
-use Rattle.stage_run.proofs.StreamLemmas.{length-concat}
+use Rattle.stage_run.proofs.StreamLemmas.{length-concat, unfinished-few}
 use Rattle.stage_run.proofs.InputLemmas.{InputGoes-none}
 use Rattle.stage_run.proofs.ContinuesLemmas.{Continues, continues-feed}
 use Rattle.stage_run.proofs.KeepingLemmas.{IsLonger, keeps_list}
@@ -172,10 +171,6 @@ tells_followed true news at done fills unread filled free = inl (filled, free)
 tells_followed false news at done fills unread filled free = (filled, free)
 
 -- of a packet that is not whole there are fewer bytes
-unfinished-few : (hand : List ℕ) → IsUnfinished hand → length hand < 188
-unfinished-few [] is = omega arith
-unfinished-few (first ∷ rest) is = is.1
-
 -- no source and no null packets end so
 no_too_long_ : {S : Type 0} (seen : S → SourceView) (feed : PacketFeed S) (first : SourceView) (read : List ℕ) (rows : List (List ℕ))
     → FeedStands seen feed first read rows (Some TooLong) → ⊥

@@ -3,6 +3,7 @@ pub mod CellLemmas
 pub mod GeneratedLemmas
 pub mod WritingLemmas
 pub mod StreamLemmas
+pub mod FillLemmas
 pub mod InputLemmas
 pub mod PacketLemmas
 pub mod ContinuesLemmas

@@ -1,10 +1,11 @@
 -- An output's work, put together from what it wrote.
 use Rattle.std.proofs.Common.{◌≡◌, ◌≢◌, ℕ, suc, ◌+◌, ◌-◌, ◌<◌, ◌||◌, min, ◌≤◌, if◌then◌else◌, Bool, true, false, List, [], ◌∷◌, ◌++◌, length, take, drop, refl, ap, sym, ◌∙◌, arith, append_assoc, append-nil, length-take, subst, Option, None, Some, inl, inr, take-append-drop}
+use native.Mathlib.Numerals.{unary_clauses}
 use Rattle.std.proofs.lemmas.Bool.{leb-false}
 use Rattle.ts_packet.specs.declared.cell.Cell.{Cell}
 use Rattle.ts_outside.specs.Count.{raised}
 use Rattle.ts_outside.specs.Sink.{SinkView, took, write_failed}
-use Rattle.ts_outside.proofs.Views.{took-took}
+use Rattle.ts_outside.proofs.Views.{took-nil, took-took}
 use Rattle.chain_model.specs.PluginRule.{PluginRule, passing_rule}
 use Rattle.chain_model.specs.Apply.{StageList, last_passed, apply}
 use Rattle.chain_model.specs.Joint.{agreement_after}
@@ -216,6 +217,20 @@ module _ {K : Type 0} (seen : K → SinkView) where
           keeps = λ plugins. keeps_passing lists cells done plugins (followed news (at + done)) was.same (IsOutputEnd-followed b);
         };
       }
+
+  -- an output without a cell in its hands
+  none_written : (part : OutputPart K) → PartWrites seen part part [] 0
+  none_written (Stream sink) = inl (refl, sym (took-nil (seen sink)))
+  none_written Discard = refl
+
+  none_below : (limit : Option ℕ) (at : ℕ) → 0 ≡ below_limit limit at 0
+  none_below None at = refl
+  none_below (Some limit) at = simp unary_clauses refl
+
+  pub output_none : (old : OutputStage K) (lists : PartLists) (news : News) (at written : ℕ) → MayWork (OutputStands seen old) at written lists
+      → Works (OutputStands seen old) (OutputWorks seen old old lists news [] [] (plain_work 0 (followed news (at + 0)))) lists written [] [] (plain_work 0 (followed news (at + 0)))
+  output_none old lists news at written may =
+      output_whole old old lists news [] at written 0 0 may (none_below news.limit at) (omega arith) (omega arith) (omega arith) (none_written old.part)
 
   -- an output of which a write failed
   pub output_cut : (old new : OutputStage K) (lists : PartLists) (news : News) (cells : List Cell) (at written len done : ℕ)

@@ -109,6 +109,10 @@ pub IsUnfinished-few : (hand : List ℕ) → IsInSync hand → length hand < 188
 IsUnfinished-few [] sync few = tt
 IsUnfinished-few (first ∷ rest) sync few = (sync, few)
 
+pub unfinished-few : (hand : List ℕ) → IsUnfinished hand → length hand < 188
+unfinished-few [] is = omega arith
+unfinished-few (first ∷ rest) is = is.1
+
 pub length-hand : {S : Type 0} (stream : PacketStream S) → HasRoom stream → length (hand_of stream) ≡ stream.have
 length-hand stream room =
     let size : vec_len stream.room.bytes ≡ length stream.room.bytes.items = stream.room.bytes.ok.0 in

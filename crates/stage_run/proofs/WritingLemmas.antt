@@ -1,5 +1,5 @@
 -- Cells one after another: what they write, and where a byte of it stands.
-use Rattle.std.proofs.Common.{◌≡◌, ℕ, ◌+◌, ◌<◌, ◌≤◌, List, [], ◌∷◌, ◌++◌, length, take, drop, get_or, ap, sym, ◌∙◌, arith, append_assoc, append-nil, length-append, length-drop, subst, take-add, drop-drop, take-append-drop, inr}
+use Rattle.std.proofs.Common.{◌≡◌, ℕ, zero, suc, refl, Bool, true, false, ◌*◌, inl, length-take, length-take-le, ◌+◌, ◌<◌, ◌≤◌, List, [], ◌∷◌, ◌++◌, length, take, drop, get_or, ap, sym, ◌∙◌, arith, append_assoc, append-nil, length-append, length-drop, subst, take-add, drop-drop, take-append-drop, inr}
 use Rattle.std.proofs.lemmas.List.{drop_more, take_more, drop-append-le, take-append-le}
 use Rattle.std.proofs.Math.Seq.{take-append-add}
 use Rattle.std.proofs.lemmas.List.Concat.{flat_map-append}
@@ -8,7 +8,13 @@ use Rattle.ts_packet.specs.Cells.{Live, Dropped}
 use Rattle.ts_outside.specs.Sink.{SinkView, took, write_failed}
 use Rattle.ts_outside.proofs.Views.{took-took}
 use Rattle.chain_model.specs.Written.{cell_bytes, written, IsPartOfFirst}
-use Rattle.stage_run.specs.Writing.{StandsAt, WritesCells}
+use Rattle.std.proofs.lemmas.List.{get_or_default}
+use Rattle.std.proofs.lemmas.List.Elements.{All-head, All-tail, All-take}
+use Rattle.cell_rows.specs.declared.mark.Mark.{Mark}
+use Rattle.cell_rows.specs.Cells.{cell_of, cells_of}
+use Rattle.cell_rows.proofs.CellLemmas.{cells_at, cells_long, cells_take, dropped_is, live_is}
+use Rattle.ts_land.specs.Opening.{AreRows, joined}
+use Rattle.stage_run.specs.Writing.{AreLive, IsLiveMark, StandsAt, WritesCells}
 
 pub written-append : (xs ys : List Cell) → written (xs ++ ys) ≡ written xs ++ written ys
 written-append xs ys = flat_map-append cell_bytes xs ys
@@ -118,3 +124,66 @@ part-of-all len place cells part within is =
     ap (drop place) (sym (take-append-drop len cells)) ∙ drop-append-le place (take len cells) (drop len cells) within in
     let P : List Cell → Type 0 = λ l. IsPartOfFirst l part in
     subst P (sym back) (part-of-more (drop place (take len cells)) (drop len cells) part is)
+
+-- cells of which none was dropped write their packets
+pub written_live : (ps : List (List ℕ)) (ms : List Mark) → length ms ≡ length ps → AreLive ms → written (cells_of ps ms) ≡ joined ps
+written_live [] ms l are = refl
+written_live (p ∷ ps) [] l are = absurd (omega (arith, l))
+written_live (p ∷ ps) (m ∷ ms) l are =
+    ap (λ (c : Cell). written (c ∷ cells_of ps ms)) (live_is p m (All-head IsLiveMark m ms are))
+    ∙ ap (λ (w : List ℕ). p ++ w) (written_live ps ms (omega (arith, l)) (All-tail IsLiveMark m ms are))
+
+pub length-joined : (ps : List (List ℕ)) → AreRows ps → length (joined ps) ≡ 188 * length ps
+length-joined [] are = refl
+length-joined (p ∷ ps) are =
+    let here : length p ≡ 188 = are.0.whole in let rest = length-joined ps are.1 in omega (arith, length-append p (joined ps), here, rest)
+
+rows_first : (k : ℕ) (ps : List (List ℕ)) → AreRows ps → AreRows (take k ps)
+rows_first zero ps are = tt
+rows_first (suc k) [] are = tt
+rows_first (suc k) (p ∷ ps) are = (are.0, rows_first k ps are.1)
+
+-- one packet of a window
+row_at : (k : ℕ) (ps : List (List ℕ)) → AreRows ps → k < length ps → length (get_or ps k []) ≡ 188
+row_at k [] are lt = absurd (omega (arith, lt))
+row_at zero (p ∷ ps) are lt = are.0.whole
+row_at (suc k) (p ∷ ps) are lt = row_at k ps are.1 (omega (arith, lt))
+
+-- a byte of packets of which none was dropped stands in the packet of its number
+pub stands_live : (ps : List (List ℕ)) (ms : List Mark) (byte k left : ℕ) → length ms ≡ length ps → AreLive ms → AreRows ps → byte ≡ k * 188 + left → left < 188 → k < length ps
+    → StandsAt (cells_of ps ms) byte k
+stands_live ps ms byte k left l are rows is few within =
+    let cells = cells_of ps ms in let n = cells_long ps ms l in let none : Mark = record { labels = 0; is_live = false } in let mark : Mark = get_or ms k none in
+    let here : get_or cells k Dropped ≡ Live (get_or ps k []) mark.labels =
+    cells_at ps ms k [] none l within ∙ live_is (get_or ps k []) mark (are k none (omega (arith, l, within))) in
+    let front : length (written (take k cells)) ≡ 188 * k =
+    ap (λ (c : List Cell). length (written c)) (cells_take k ps ms)
+    ∙ ap length (written_live (take k ps) (take k ms) (let a = length-take k ps in let b = length-take k ms in omega (arith, a, b, l)) (All-take IsLiveMark k ms are))
+    ∙ length-joined (take k ps) (rows_first k ps rows) ∙ ap (λ n. 188 * n) (length-take-le k ps (omega (arith, within))) in
+    StandsAt-live cells k left byte (get_or cells k Dropped) (get_or ps k []) mark.labels (omega (arith, n, within)) (sym (get_or_default cells k (get_or cells k Dropped) Dropped (omega (arith, n, within)))) here
+    (let r = row_at k ps rows within in omega (arith, r, few)) (omega (arith, is, front))
+
+-- packets that lie side by side were written, or a write failed in one of them
+pub writes_whole : (old new : SinkView) (ps : List (List ℕ)) (ms : List Mark) → length ms ≡ length ps → AreLive ms → new ≡ took old (joined ps) → WritesCells old new (cells_of ps ms) (length ps)
+writes_whole old new ps ms l are is = inl (sym (cells_long ps ms l), is ∙ ap (took old) (sym (written_live ps ms l are)))
+
+pub writes_cut : (old new : SinkView) (ps : List (List ℕ)) (ms : List Mark) (byte k left : ℕ) → length ms ≡ length ps → AreLive ms → AreRows ps → byte ≡ k * 188 + left → left < 188 → k < length ps
+    → new ≡ write_failed (took old (take byte (joined ps))) → WritesCells old new (cells_of ps ms) k
+writes_cut old new ps ms byte k left l are rows is few within failed =
+    let stands = stands_live ps ms byte k left l are rows is few within in let n = cells_long ps ms l in
+    inr (
+      omega (arith, n, within),
+      record {
+        part = stands.part;
+        taken = failed ∙ ap (λ (w : List ℕ). write_failed (took old w)) (ap (take byte) (sym (written_live ps ms l are)) ∙ stands.taken);
+        cut = stands.cut;
+      },
+    )
+
+-- where a byte is one of those that a cell writes, its packet was not dropped
+pub size_live : (p : List ℕ) (m : Mark) (left : ℕ) → left < length (cell_bytes (cell_of p m)) → (cell_of p m ≡ Live p m.labels) × (left < length p)
+size_live p m left lt = by m.is_live refl
+  where
+    by : (b : Bool) → m.is_live ≡ b → (cell_of p m ≡ Live p m.labels) × (left < length p)
+    by true e = (live_is p m e, subst (λ (c : Cell). left < length (cell_bytes c)) (live_is p m e) lt)
+    by false e = absurd (omega (arith, subst (λ (c : Cell). left < length (cell_bytes c)) (dropped_is p m e) lt))

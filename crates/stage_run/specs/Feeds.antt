@@ -1,5 +1,6 @@
 -- How the packets of an input follow from the bytes that were read. This project's own rule.
-use Rattle.std.specs.Prelude.{◌≡◌, ℕ, ◌+◌, ◌*◌, ◌<◌, ◌≤◌, List, [], ◌∷◌, ◌++◌, length, take, drop, replicate, Option, None, Some, IfSome, vec_len}
+use Rattle.std.specs.Prelude.{◌≡◌, ℕ, ◌+◌, ◌*◌, ◌<◌, ◌≤◌, List, [], ◌∷◌, ◌++◌, length, take, drop, replicate, ◌==◌, if◌then◌else◌, Option, None, Some, IfSome, vec_len, Result, Ok, Err}
+use Rattle.ts_outside.specs.declared.faults.Failed.{Failed}
 use Rattle.std.specs.List.{All, concat}
 use Rattle.ts_packet.specs.declared.numbers.TheConstants.{PACKET_SIZE}
 use Rattle.ts_packet.specs.Packet.{IsPacket, null_packet}
@@ -98,6 +99,38 @@ pub record StreamPutsAll {S : Type 0} (seen : S → SourceView) (new : PacketStr
   pub are_put : cells ≡ live_cells put
   pub stands : StreamStands seen new first read (rows ++ put) None
 
+-- so many bytes were read straight into a window, with those in hand: these packets, and what is in hand then
+pub record ReadsPackets {S : Type 0} (seen : S → SourceView) (old new : PacketStream S) (wanted : ℕ)
+    (put : List (List ℕ)) (count : ℕ) : Type 0 where
+  pub bytes : List ℕ
+  pub length_is : length bytes ≡ count
+  pub all : hand_of old ++ bytes ≡ concat put ++ hand_of new
+  pub source : seen old.source ≡ unread bytes (seen new.source)
+  pub at_end : count ≡ 0 → IfSome (seen old.source).left (λ left. left ≡ [])
+  pub few : length (hand_of old ++ bytes) ≤ PACKET_SIZE * wanted
+
+-- the same, or the read failed, and nothing was put
+abbrev pub Fills : {S : Type 0} → (S → SourceView) → PacketStream S → PacketStream S → ℕ → List (List ℕ)
+    → Result ℕ Failed → Type 0
+Fills seen old new wanted put (Ok count) = ReadsPackets seen old new wanted put count
+Fills seen old new wanted put (Err fault) = (put ≡ []) × FailsToRead seen old new
+
+-- how the packets ended by a read, before which so many bytes were in hand
+abbrev pub end_of_count : ℕ → ℕ → Option InputEnd
+end_of_count count left = if count == 0 then Some (End left) else None
+
+abbrev pub end_of_read : Result ℕ Failed → ℕ → Option InputEnd
+end_of_read (Ok count) left = end_of_count count left
+end_of_read (Err fault) left = Some ReadFault
+
+-- packets were read straight into a window; no more was read than `wanted` packets need
+pub record StreamReads {S : Type 0} (seen : S → SourceView) (new : PacketStream S) (wanted : ℕ)
+    (first : SourceView) (read : List ℕ) (rows put : List (List ℕ)) (ended : Option InputEnd) : Type 0 where
+  pub bytes : List ℕ
+  pub stands : StreamStands seen new first (read ++ bytes) (rows ++ put) ended
+  pub reads : (most : ℕ) → length read ≤ PACKET_SIZE * most → length rows + wanted ≤ most
+      → length (read ++ bytes) ≤ PACKET_SIZE * most
+
 -- an input of so many packets that are not read ends when it has put them all
 abbrev pub EndsWhenPut : ℕ → ℕ → Option InputEnd → Type 0
 EndsWhenPut all count None = Unit {0}
@@ -191,3 +224,12 @@ pub record FeedPutsAll {S : Type 0} (seen : S → SourceView) (old new : PacketF
   pub put : List (List ℕ)
   pub are_put : cells ≡ live_cells put
   pub stands : FeedStands seen new first read (rows ++ put) None
+
+-- packets were read straight into a window
+pub record FeedReads {S : Type 0} (seen : S → SourceView) (old new : PacketFeed S) (wanted : ℕ)
+    (first : SourceView) (read : List ℕ) (rows put : List (List ℕ)) (ended : Option InputEnd) : Type 0 where
+  pub same : SameFeed old new
+  pub bytes : List ℕ
+  pub stands : FeedStands seen new first (read ++ bytes) (rows ++ put) ended
+  pub reads : (most : ℕ) → length read ≤ PACKET_SIZE * most → length rows + wanted ≤ most
+      → length (read ++ bytes) ≤ PACKET_SIZE * most

@@ -160,6 +160,19 @@ pub record Works (Stands : PartLists → Option StageEnd → Type 0) (Does : Par
 abbrev pub DoesAll : ℕ → ℕ → Type 0
 DoesAll len done = done ≡ len
 
+-- the cells that were not done are as they were
+abbrev pub StayAsTheyWere : List Cell → List Cell → Type 0
+StayAsTheyWere before after = after ≡ before
+
+-- those in an input's hands are free: what is read straight into them may be there, and nobody has given them
+abbrev pub AreFree : List Cell → List Cell → Type 0
+AreFree before after = Unit {0}
+
+abbrev pub RestsByKind : {S K P : Type 0} → StagePart S K P → List Cell → List Cell → Type 0
+RestsByKind (part.Input new) = AreFree
+RestsByKind (part.Plugin new) = StayAsTheyWere
+RestsByKind (part.Output new) = StayAsTheyWere
+
 -- a part that goes on has done all its cells; an input alone may have done the first of them, where a read is next
 abbrev pub FillsByKind : {S K P : Type 0} → StagePart S K P → ℕ → ℕ → Type 0
 FillsByKind (part.Input new) = FillsWindow new
@@ -167,14 +180,14 @@ FillsByKind (part.Plugin new) = DoesAll
 FillsByKind (part.Output new) = DoesAll
 
 -- the work of a stage, of whatever kind: `Old` and `New` are what it stood for and stands for, `Wants` says whether it may
--- run out of memory where it works so far ahead of the mark, `Fills` how many of its cells it does that goes on, and `Does` what its
--- kind does
-pub record StageWork (Old New : PartLists → Option StageEnd → Type 0) (Wants : ℕ → Type 0) (Fills : ℕ → ℕ → Type 0)
-    (Does : PartLists → PartLists → Type 0) (at : ℕ) (news : News)
+-- run out of memory where it works so far ahead of the mark, `Rests` what the cells are that it has not done, `Fills` how many
+-- of its cells it does that goes on, and `Does` what its kind does
+pub record StageWork (Old New : PartLists → Option StageEnd → Type 0) (Wants : ℕ → Type 0)
+    (Rests : List Cell → List Cell → Type 0) (Fills : ℕ → ℕ → Type 0) (Does : PartLists → PartLists → Type 0) (at : ℕ) (news : News)
     (cells cells_new : List Cell) (work : Work) : Type 0 where
-  -- so many cells are done, and the others are as they were
+  -- so many cells are done
   pub done : work.done ≤ length cells
-  pub rest : drop work.done cells_new ≡ drop work.done cells
+  pub rest : Rests (drop work.done cells) (drop work.done cells_new)
   pub goes_on : work.word.ended ≡ None → Fills (length cells) work.done
   pub follows : FollowsNews news (at + work.done) work.word.ended
   -- an agreement is with one of the cells that were done
@@ -188,7 +201,7 @@ pub record StageWork (Old New : PartLists → Option StageEnd → Type 0) (Wants
 abbrev pub InputWork : {S : Type 0} → (S → SourceView) → InputStage S → InputStage S
     → ℕ → News → List Cell → List Cell → Work → Type 0
 InputWork seen old new at news cells cells_new work =
-    StageWork (InputStands seen old) (InputStands seen new) (λ _. ⊥) (FillsWindow new)
+    StageWork (InputStands seen old) (InputStands seen new) (λ _. ⊥) AreFree (FillsWindow new)
     (λ before. InputWorks seen old new before news cells cells_new work) at news cells cells_new work
 
 -- the work of a plugin's stage: it does not run out of memory where room was made for all that it is given to work on
@@ -196,14 +209,14 @@ abbrev pub PluginWork : {P : Type 0} → (P → PluginRule) → (P → List Cell
     → PluginStage P → PluginStage P → ℕ → News → List Cell → List Cell → Work → Type 0
 PluginWork rule stands preallocated old new at news cells cells_new work =
     StageWork (PluginStands rule stands old) (PluginStands rule stands new)
-    (λ ahead. IsPreallocatedFor (preallocated old.heard.plugin) ahead → ⊥) DoesAll
+    (λ ahead. IsPreallocatedFor (preallocated old.heard.plugin) ahead → ⊥) StayAsTheyWere DoesAll
     (λ before. PluginWorks (rule old.heard.plugin) before news cells cells_new work) at news cells cells_new work
 
 -- the work of an output: it does not run out of memory
 abbrev pub OutputWork : {K : Type 0} → (K → SinkView) → OutputStage K → OutputStage K
     → ℕ → News → List Cell → List Cell → Work → Type 0
 OutputWork seen old new at news cells cells_new work =
-    StageWork (OutputStands seen old) (OutputStands seen new) (λ _. ⊥) DoesAll
+    StageWork (OutputStands seen old) (OutputStands seen new) (λ _. ⊥) StayAsTheyWere DoesAll
     (λ before. OutputWorks seen old new before news cells cells_new work) at news cells cells_new work
 
 -- a part worked on cells that come after its first `at`; its kind does not change
@@ -213,5 +226,6 @@ pub record PartWork {S K P : Type 0} (see : Seeing S K P) (old new : StagePart S
   pub same_rule : rule_of see new ≡ rule_of see old
   pub same_preallocated : preallocated_of see new ≡ preallocated_of see old
   pub same_stuffing : stuffing_in new ≡ stuffing_in old
-  pub stage : StageWork (PartStands see old) (PartStands see new) (MayWantMemory see old) (FillsByKind new)
+  pub stage : StageWork (PartStands see old) (PartStands see new) (MayWantMemory see old) (RestsByKind new)
+      (FillsByKind new)
       (λ before. WorksByKind see old new before news cells cells_new work) at news cells cells_new work

@@ -1,5 +1,7 @@
 -- How a list of cells is written, and where a failing write cuts it. This project's own rule.
-use Rattle.std.specs.Prelude.{◌≡◌, ◌⊎◌, ◌<◌, ℕ, List, ◌++◌, length, take, drop}
+use Rattle.std.specs.Prelude.{◌≡◌, ◌⊎◌, ◌<◌, ℕ, List, ◌++◌, length, take, drop, true}
+use Rattle.std.specs.List.{All}
+use Rattle.cell_rows.specs.declared.mark.Mark.{Mark}
 use Rattle.ts_packet.specs.declared.cell.Cell.{Cell}
 use Rattle.ts_outside.specs.Sink.{SinkView, took}
 use Rattle.chain_model.specs.Written.{written, IsPartOfFirst}
@@ -24,6 +26,14 @@ abbrev pub WritesCells : SinkView → SinkView → List Cell → ℕ → Type 0
 WritesCells old new cells place =
     ((place ≡ length cells) × (new ≡ took old (written cells)))
     ⊎ ((place < length cells) × CutsAt old new cells place)
+
+-- no plugin dropped the packet
+abbrev pub IsLiveMark : Mark → Type 0
+IsLiveMark mark = mark.is_live ≡ true
+
+-- none of these packets was dropped
+abbrev pub AreLive : List Mark → Type 0
+AreLive marks = All IsLiveMark marks
 
 -- an output wrote cells; what goes nowhere is always written
 abbrev pub PartWrites : {K : Type 0} → (K → SinkView) → OutputPart K → OutputPart K → List Cell → ℕ → Type 0

@@ -1,7 +1,8 @@
 //! The packets of an input that is a generated stream.
 
+use cell_rows::Mark;
 use chain_core::InputEnd;
-use ts_packet::Cell;
+use ts_packet::Packet;
 use ts_testgen::TestGen;
 
 /// The packets of an input that is a generated stream.
@@ -20,6 +21,7 @@ impl GeneratedFeed {
     ghost use Rattle.chain_model.specs.declared.positions.TheConstants.{POSITION_LIMIT};
     ghost use Rattle.ts_packet.specs.Cells.{Live};
     ghost use Rattle.ts_packet.specs.Labels.{no_labels};
+    ghost use Rattle.cell_rows.specs.Cells.{cell_of};
     ghost use Rattle.ts_testgen.specs.Generated.{generated};
     ghost use Rattle.stage_run.specs.Feeds.{IsCounted};
 
@@ -34,18 +36,19 @@ impl GeneratedFeed {
         }
     }
 
-    /// Puts the next packet into a cell.
-    pub(crate) fn next_packet(&mut self, cell: &mut Cell)
+    /// Puts the next packet into a slot.
+    pub(crate) fn next_packet(&mut self, packet: &mut Packet, mark: &mut Mark)
         requires left { self.old.packets < self.old.all }
         requires counted { IsCounted self.old }
         requires in_range { self.old.packets < POSITION_LIMIT }
-        ensures puts { cell.new ≡ Live (generated self.old.generator.seed self.old.packets) no_labels }
+        ensures puts { cell_of packet.new mark.new ≡ Live (generated self.old.generator.seed self.old.packets) no_labels }
         ensures seed { self.new.generator.seed ≡ self.old.generator.seed }
         ensures all { self.new.all ≡ self.old.all }
         ensures packets { self.new.packets ≡ self.old.packets + 1 }
         ensures counted { IsCounted self.new }
     {
-        cell.put(self.generator.next_packet());
+        *packet = self.generator.next_packet();
+        *mark = Mark::live();
         self.packets += 1;
     }
 }

@@ -1,16 +1,21 @@
 //! The stage of an input.
 
-ghost use Rattle.std.specs.Prelude.{◌≡◌, ◌≤◌};
+ghost use Rattle.std.specs.Prelude.{◌≡◌, ◌≤◌, ℕ, List, length, take};
+ghost use Rattle.cell_rows.specs.Cells.{cells_of};
+ghost use Rattle.stage_run.specs.Feeds.{live_cells};
 ghost use Rattle.stage_run.specs.InputStands.{stuffing_of};
 ghost use Rattle.stage_run.specs.InputSteps.{stop_count, null_count};
 
 use crate::packet_feed::PacketFeed;
+use crate::packet_stream::PacketsRead;
 use crate::telling::{followed, may_follow};
 use crate::{InputPart, IoBuffer, Stuffing, Work};
+use cell_land::CellWindow;
+use cell_rows::Mark;
 use chain_core::{InputEnd, News, StageEnd};
 use chain_model::POSITION_LIMIT;
 use ts_outside::Source;
-use ts_packet::{Cell, Packet};
+use ts_packet::Packet;
 
 /// An input with its stuffing.
 pub struct InputStage<S> {
@@ -56,12 +61,26 @@ fn null_count(packets: u64, stuffing: &Stuffing) -> u64
     }
 }
 
+/// Marks the first packets of a window as live ones, without labels.
+fn mark_live(marks: &mut [Mark], count: usize)
+    requires { count ≤ length marks.old }
+    ensures long { length marks.new ≡ length marks.old }
+    ensures live { (packets : List (List ℕ)) → length packets ≡ length marks.old
+        → take count (cells_of packets marks.new) ≡ live_cells (take count packets) }
+{
+    for slot in 0..count {
+        marks[slot] = Mark::live();
+    }
+}
+
 impl<S: Source> InputStage<S> {
-    ghost use Rattle.std.specs.Prelude.{◌≡◌, ◌≢◌, ℕ, ◌+◌, ◌%◌, ◌==◌, ◌<◌, ◌≤◌, ◌↔◌, [], length, take, drop, if◌then◌else◌, Option, None, Some, IsSome, IfSome, true};
+    ghost use Rattle.std.specs.Prelude.{◌≡◌, ◌≢◌, ℕ, ◌+◌, ◌%◌, ◌==◌, ◌<◌, ◌≤◌, ◌↔◌, [], length, take, if◌then◌else◌, Option, None, Some, IfSome, true, ◌^◌, ◌⊎◌};
     ghost use Rattle.chain_model.specs.Apply.{StageList};
     ghost use Rattle.chain_core.specs.declared.stage_end.StageEnd.{StageEnd};
     ghost use Rattle.ts_outside.specs.Source.{SourceView};
     ghost use Rattle.ts_outside.specs.Sink.{SinkView};
+    ghost use Rattle.cell_rows.specs.Cells.{cell_of, cells_of};
+    ghost use Rattle.cell_land.specs.Cells.{SameSlots};
     ghost use Rattle.stage_run.specs.PartLists.{PartLists, fresh_lists};
     ghost use Rattle.stage_run.specs.Feeds.{IsReady, packets_put};
     ghost use Rattle.stage_run.specs.InputStands.{IsOpen, InputHolds, InputStands, MayGive, stuffing_of};
@@ -131,15 +150,14 @@ impl<S: Source> InputStage<S> {
     }
 
     /// Puts the next cell of the list, or returns how the list ends. `wanted` cells are asked for, with this one.
-    fn next_cell(&mut self, cell: &mut Cell, wanted: usize) -> Option<InputEnd>
+    fn next_cell(&mut self, packet: &mut Packet, mark: &mut Mark, wanted: usize) -> Option<InputEnd>
         requires some { 1 ≤ wanted }
         requires fits { InputFits self.old }
         requires in_range { packets_put self.old.feed < POSITION_LIMIT }
         ensures fits { InputFits self.new }
         ensures goes { (lists : PartLists) → InputHolds S.seen self.old lists
-            → InputGoes S.seen self.old self.new lists wanted (cell_put result cell.new) }
+            → InputGoes S.seen self.old self.new lists wanted (cell_put result (cell_of packet.new mark.new)) }
         ensures over { IfSome result (λ how. IsOver self.new how) }
-        ensures kept { IsSome result → cell.new ≡ cell.old }
         ensures packets { packets_put self.new.feed ≤ packets_put self.old.feed + 1 }
         ensures stays_open { result ≡ None → IsOpen self.old.ended → IsOpen self.new.ended }
         ensures same_stuffing { self.new.stuffing ≡ self.old.stuffing }
@@ -147,13 +165,14 @@ impl<S: Source> InputStage<S> {
         self.ensure_packet(wanted);
         if self.nulls > 0 {
             self.nulls -= 1;
-            cell.put(Packet::null());
+            *packet = Packet::null();
+            *mark = Mark::live();
             return None;
         }
         if self.ended.is_some() {
             return self.ended;
         }
-        self.feed.next_packet(cell);
+        self.feed.next_packet(packet, mark);
         self.nulls = null_count(self.feed.packets(), &self.stuffing);
         None
     }
@@ -172,31 +191,32 @@ impl<S: Source> InputStage<S> {
         self.feed.wants_read()
     }
 
-    /// Puts the next cells of the list, until the window is full, the list ends, or some cells were put and the next one
-    /// needs a read.
-    fn fill(&mut self, cells: &mut [Cell]) -> Filled
+    /// Puts the next cells of the list, after `before` others of the same window, until the slots are full, the list ends, or
+    /// some cells were put and the next one needs a read.
+    fn fill(&mut self, before: usize, packets: &mut [Packet], marks: &mut [Mark]) -> Filled
+        requires long { length marks.old ≡ length packets.old }
+        requires few { before + length packets.old < 2 ^ 64 }
         requires fits { InputFits self.old }
-        requires in_range { packets_put self.old.feed + length cells.old ≤ POSITION_LIMIT }
-        ensures done { result.done ≤ length cells.old }
-        ensures rest { drop result.done cells.new ≡ drop result.done cells.old }
+        requires in_range { packets_put self.old.feed + length packets.old ≤ POSITION_LIMIT }
+        ensures done { result.done ≤ length packets.old }
         ensures goes { (lists : PartLists) → InputHolds S.seen self.old lists
-            → InputGoes S.seen self.old self.new lists (length cells.old) (take result.done cells.new) }
-        ensures filled { IsFilled self.new (length cells.old) result.done result.over }
+            → InputGoes S.seen self.old self.new lists (length packets.old) (take result.done (cells_of packets.new marks.new)) }
+        ensures filled { IsFilled self.new (before + length packets.old) (before + result.done) result.over }
         ensures stays_open { result.over ≡ None → IsOpen self.old.ended → IsOpen self.new.ended }
         ensures same_stuffing { self.new.stuffing ≡ self.old.stuffing }
     {
-        let len = cells.len();
+        let len = packets.len();
         let mut done = 0;
         while done < len {
-            if self.hands_on(done) {
+            if self.hands_on(before + done) {
                 return Filled { done, over: None };
             }
-            let over = self.next_cell(&mut cells[done], len - done);
+            let over = self.next_cell(&mut packets[done], &mut marks[done], len - done);
             if over.is_some() {
                 return Filled { done, over };
             }
             done += 1;
-            done += self.put_in_hand(&mut cells[done..]);
+            done += self.put_in_hand(&mut packets[done..], &mut marks[done..]);
         }
         Filled {
             done: len,
@@ -204,15 +224,108 @@ impl<S: Source> InputStage<S> {
         }
     }
 
-    /// Puts the packets that are in hand, where no null packets stand between them, and returns how many.
-    fn put_in_hand(&mut self, cells: &mut [Cell]) -> usize
+    /// The same, with the cells of a window.
+    fn fill_rows(&mut self, before: usize, window: CellWindow) -> (Filled, CellWindow)
+        requires few { before + length window.cells < 2 ^ 64 }
         requires fits { InputFits self.old }
-        requires in_range { packets_put self.old.feed + length cells.old ≤ POSITION_LIMIT }
+        requires in_range { packets_put self.old.feed + length window.cells ≤ POSITION_LIMIT }
+        ensures slots { SameSlots window result.1 }
+        ensures done { result.0.done ≤ length window.cells }
+        ensures goes { (lists : PartLists) → InputHolds S.seen self.old lists
+            → InputGoes S.seen self.old self.new lists (length window.cells) (take result.0.done result.1.cells) }
+        ensures filled { IsFilled self.new (before + length window.cells) (before + result.0.done) result.0.over }
+        ensures stays_open { result.0.over ≡ None → IsOpen self.old.ended → IsOpen self.new.ended }
+        ensures same_stuffing { self.new.stuffing ≡ self.old.stuffing }
+    {
+        let (mut packets, mut marks) = window.apart();
+        let filled = self.fill(before, packets.as_mut_slice(), marks.as_mut_slice());
+        (filled, CellWindow::of(packets, marks))
+    }
+
+    /// How the list is over: the end of the packets is known, and no null packets are due after it.
+    fn over(&self) -> Option<InputEnd>
+        ensures over { IfSome result (λ how. IsOver self.now how) }
+        ensures goes_on { result ≡ None → (0 < self.now.nulls) ⊎ (self.now.ended ≡ None) }
+    {
+        if self.nulls > 0 {
+            return None;
+        }
+        self.ended
+    }
+
+    /// Reads straight into a window, where packets are read next and no null packets stand between them, and returns how many
+    /// packets were put.
+    fn read_into(&mut self, window: CellWindow) -> (usize, CellWindow)
+        requires fits { InputFits self.old }
+        requires in_range { packets_put self.old.feed + length window.cells ≤ POSITION_LIMIT }
+        ensures slots { SameSlots window result.1 }
+        ensures within { result.0 ≤ length window.cells }
         ensures fits { InputFits self.new }
-        ensures done { result ≤ length cells.old }
-        ensures rest { drop result cells.new ≡ drop result cells.old }
+        ensures goes { (lists : PartLists) → InputHolds S.seen self.old lists
+            → InputGoes S.seen self.old self.new lists (length window.cells) (take result.0 result.1.cells) }
+        ensures packets { packets_put self.new.feed ≡ packets_put self.old.feed + result.0 }
+        ensures stays_open { 0 < self.new.nulls → IsOpen self.old.ended → IsOpen self.new.ended }
+        ensures same_stuffing { self.new.stuffing ≡ self.old.stuffing }
+    {
+        if self.stuffing.null >= 1 {
+            return (0, window);
+        }
+        if self.nulls > 0 {
+            return (0, window);
+        }
+        if self.ended.is_some() {
+            return (0, window);
+        }
+        let (packets, mut marks) = window.apart();
+        let PacketsRead {
+            window: packets,
+            count,
+            ended,
+        } = self.feed.fill_window(packets);
+        self.ended = ended;
+        self.nulls = stop_count(ended, self.stuffing.stop);
+        mark_live(marks.as_mut_slice(), count);
+        (count, CellWindow::of(packets, marks))
+    }
+
+    /// Puts the next cells of the list into a window, until it is full, the list ends, or some cells were put and the next one
+    /// needs a read. What comes from a source is read straight into it where it can be.
+    fn fill_window(&mut self, window: CellWindow) -> (Filled, CellWindow)
+        requires fits { InputFits self.old }
+        requires in_range { packets_put self.old.feed + length window.cells ≤ POSITION_LIMIT }
+        ensures slots { SameSlots window result.1 }
+        ensures done { result.0.done ≤ length window.cells }
+        ensures goes { (lists : PartLists) → InputHolds S.seen self.old lists
+            → InputGoes S.seen self.old self.new lists (length window.cells) (take result.0.done result.1.cells) }
+        ensures filled { IsFilled self.new (length window.cells) result.0.done result.0.over }
+        ensures stays_open { result.0.over ≡ None → IsOpen self.old.ended → IsOpen self.new.ended }
+        ensures same_stuffing { self.new.stuffing ≡ self.old.stuffing }
+    {
+        let (read, window) = self.read_into(window);
+        let over = self.over();
+        if over.is_some() {
+            return (Filled { done: read, over }, window);
+        }
+        let (front, back) = window.split(read);
+        let (filled, back) = self.fill_rows(read, back);
+        (
+            Filled {
+                done: read + filled.done,
+                over: filled.over,
+            },
+            front.join(back),
+        )
+    }
+
+    /// Puts the packets that are in hand, where no null packets stand between them, and returns how many.
+    fn put_in_hand(&mut self, packets: &mut [Packet], marks: &mut [Mark]) -> usize
+        requires long { length marks.old ≡ length packets.old }
+        requires fits { InputFits self.old }
+        requires in_range { packets_put self.old.feed + length packets.old ≤ POSITION_LIMIT }
+        ensures fits { InputFits self.new }
+        ensures done { result ≤ length packets.old }
         ensures goes { (lists : PartLists) (wanted : ℕ) → InputHolds S.seen self.old lists
-            → InputGoes S.seen self.old self.new lists wanted (take result cells.new) }
+            → InputGoes S.seen self.old self.new lists wanted (take result (cells_of packets.new marks.new)) }
         ensures packets { packets_put self.new.feed ≡ packets_put self.old.feed + result }
         ensures same_end { self.new.ended ≡ self.old.ended }
         ensures same_stuffing { self.new.stuffing ≡ self.old.stuffing }
@@ -226,7 +339,7 @@ impl<S: Source> InputStage<S> {
         if self.ended.is_some() {
             return 0;
         }
-        self.feed.put_in_hand(cells)
+        self.feed.put_in_hand(packets, marks)
     }
 
     /// How the list ends at the last position: one more cell would be at the limit of positions.
@@ -247,11 +360,41 @@ impl<S: Source> InputStage<S> {
 
     /// Reads and puts packets into its cells, unless the news let the input follow already: for all of them, or until the list ends
     /// or a second read would be needed.
-    pub(crate) fn work(&mut self, at: u64, cells: &mut [Cell], news: &News) -> Work
+    pub(crate) fn work(&mut self, at: u64, window: CellWindow, news: &News) -> (Work, CellWindow)
         requires stands { MayWorkOnSome (InputStands S.seen self.old) at news.now.written }
-        requires in_range { at + length cells.old ≤ POSITION_LIMIT }
+        requires in_range { at + length window.cells ≤ POSITION_LIMIT }
         ensures same_stuffing { self.new.stuffing ≡ self.old.stuffing }
-        ensures work { InputWork S.seen self.old self.new at news.now cells.old cells.new result }
+        ensures work { InputWork S.seen self.old self.new at news.now window.cells result.1.cells result.0 }
+        ensures slots { SameSlots window result.1 }
+    {
+        if may_follow(news, at) {
+            return (Work::ending(0, Some(StageEnd::Followed)), window);
+        }
+        if at == POSITION_LIMIT {
+            return (
+                Work::ending(0, Some(StageEnd::Input(self.end_at_limit()))),
+                window,
+            );
+        }
+        let (filled, window) = self.fill_window(window);
+        match filled.over {
+            Some(how) => (
+                Work::ending(filled.done, Some(StageEnd::Input(how))),
+                window,
+            ),
+            None => (
+                Work::ending(filled.done, followed(news, at + filled.done as u64)),
+                window,
+            ),
+        }
+    }
+
+    /// The work where no cell is in its hands: nothing is read but, at the last position, for the end.
+    pub(crate) fn work_on_none(&mut self, at: u64, news: &News) -> Work
+        requires stands { MayWorkOnSome (InputStands S.seen self.old) at news.now.written }
+        requires in_range { at ≤ POSITION_LIMIT }
+        ensures same_stuffing { self.new.stuffing ≡ self.old.stuffing }
+        ensures work { InputWork S.seen self.old self.new at news.now [] [] result }
     {
         if may_follow(news, at) {
             return Work::ending(0, Some(StageEnd::Followed));
@@ -259,10 +402,6 @@ impl<S: Source> InputStage<S> {
         if at == POSITION_LIMIT {
             return Work::ending(0, Some(StageEnd::Input(self.end_at_limit())));
         }
-        let filled = self.fill(cells);
-        match filled.over {
-            Some(how) => Work::ending(filled.done, Some(StageEnd::Input(how))),
-            None => Work::ending(filled.done, followed(news, at + filled.done as u64)),
-        }
+        Work::ending(0, followed(news, at))
     }
 }

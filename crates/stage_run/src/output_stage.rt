@@ -1,11 +1,11 @@
 //! The stage of an output.
 
 use crate::telling::{below_limit, followed};
-use crate::writing::write_cells;
+use crate::writing::write_first;
 use crate::{IoBuffer, OutputPart, Work};
+use cell_land::CellWindow;
 use chain_core::{News, StageEnd};
 use ts_outside::Sink;
-use ts_packet::Cell;
 
 /// An output with its buffer.
 pub struct OutputStage<K> {
@@ -14,7 +14,7 @@ pub struct OutputStage<K> {
 }
 
 impl<K: Sink> OutputStage<K> {
-    ghost use Rattle.std.specs.Prelude.{◌≡◌, ◌≢◌, ℕ, ◌+◌, ◌<◌, ◌≤◌, [], length, take, drop, Option, None, Some};
+    ghost use Rattle.std.specs.Prelude.{◌≡◌, ◌≢◌, ℕ, ◌+◌, ◌<◌, ◌≤◌, [], length, take, Option, None, Some};
     ghost use Rattle.chain_model.specs.declared.positions.TheConstants.{POSITION_LIMIT};
     ghost use Rattle.chain_core.specs.declared.stage_end.StageEnd.{StageEnd};
     ghost use Rattle.ts_outside.specs.Source.{SourceView};
@@ -45,28 +45,42 @@ impl<K: Sink> OutputStage<K> {
         part
     }
 
-    /// Writes the cells; the result is the number of those before the one whose packet was not taken whole, or all.
-    fn write(&mut self, cells: &[Cell]) -> usize
-        ensures within { result ≤ length cells.now }
-        ensures writes { PartWrites K.seen self.old.part self.new.part cells.now result }
+    /// Writes the first cells of a window; the result is the number of those before the one whose packet was not taken whole,
+    /// or all, with the window as it was.
+    fn write(&mut self, window: CellWindow, len: usize) -> (usize, CellWindow)
+        requires few { len ≤ length window.cells }
+        ensures within { result.0 ≤ len }
+        ensures writes { PartWrites K.seen self.old.part self.new.part (take len window.cells) result.0 }
+        ensures same { result.1 ≡ window }
     {
         match &mut self.part {
-            OutputPart::Stream(sink) => write_cells(sink, self.room.bytes.as_mut_slice(), cells),
-            OutputPart::Discard => cells.len(),
+            OutputPart::Stream(sink) => {
+                write_first(sink, self.room.bytes.as_mut_slice(), window, len)
+            }
+            OutputPart::Discard => (len, window),
         }
     }
 
     /// Writes the live packets of all cells below the limit.
-    pub(crate) fn work(&mut self, at: u64, cells: &mut [Cell], news: &News) -> Work
+    pub(crate) fn work(&mut self, at: u64, window: CellWindow, news: &News) -> (Work, CellWindow)
         requires stands { MayWorkOnSome (OutputStands K.seen self.old) at news.now.written }
-        requires in_range { at + length cells.old ≤ POSITION_LIMIT }
-        ensures { OutputWork K.seen self.old self.new at news.now cells.old cells.new result }
+        requires in_range { at + length window.cells ≤ POSITION_LIMIT }
+        ensures work { OutputWork K.seen self.old self.new at news.now window.cells result.1.cells result.0 }
+        ensures same { result.1 ≡ window }
     {
-        let len = below_limit(news.limit, at, cells.len());
-        let done = self.write(&cells[..len]);
+        let len = below_limit(news.limit, at, window.len());
+        let (done, window) = self.write(window, len);
         if done < len {
-            return Work::ending(done, Some(StageEnd::WriteFault));
+            return (Work::ending(done, Some(StageEnd::WriteFault)), window);
         }
-        Work::ending(done, followed(news, at + done as u64))
+        (Work::ending(done, followed(news, at + done as u64)), window)
+    }
+
+    /// The work where no cell is in its hands.
+    pub(crate) fn work_on_none(&mut self, at: u64, news: &News) -> Work
+        requires stands { MayWorkOnSome (OutputStands K.seen self.old) at news.now.written }
+        ensures { OutputWork K.seen self.old self.new at news.now [] [] result }
+    {
+        Work::ending(0, followed(news, at))
     }
 }

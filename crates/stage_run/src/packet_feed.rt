@@ -2,11 +2,13 @@
 
 use crate::generated_feed::GeneratedFeed;
 use crate::null_feed::NullFeed;
-use crate::packet_stream::PacketStream;
+use crate::packet_stream::{PacketStream, PacketsRead, nothing_read};
 use crate::{InputPart, IoBuffer};
+use cell_rows::Mark;
 use chain_core::InputEnd;
+use ts_land::Window;
 use ts_outside::Source;
-use ts_packet::{Cell, Packet};
+use ts_packet::Packet;
 
 /// The packets of an input, one after another.
 pub(crate) enum PacketFeed<S> {
@@ -16,10 +18,11 @@ pub(crate) enum PacketFeed<S> {
 }
 
 impl<S: Source> PacketFeed<S> {
-    ghost use Rattle.std.specs.Prelude.{◌≡◌, ◌+◌, ◌<◌, ◌≤◌, ℕ, List, length, take, drop, None, IfNone, true};
+    ghost use Rattle.std.specs.Prelude.{◌≡◌, ◌+◌, ◌<◌, ◌≤◌, ℕ, List, length, take, None, IfNone, true};
     ghost use Rattle.chain_model.specs.declared.positions.TheConstants.{POSITION_LIMIT};
     ghost use Rattle.ts_outside.specs.Source.{SourceView};
-    ghost use Rattle.stage_run.specs.Feeds.{FeedStands, FeedHasRoom, FeedLooks, FeedPuts, FeedPutsAll, IsFeedOf, IsReady, WantsMore, packets_put, part_of_feed};
+    ghost use Rattle.cell_rows.specs.Cells.{cell_of, cells_of};
+    ghost use Rattle.stage_run.specs.Feeds.{FeedStands, FeedHasRoom, FeedLooks, FeedPuts, FeedPutsAll, FeedReads, IsFeedOf, IsReady, WantsMore, packets_put, part_of_feed};
 
     /// The packets of an input of which nothing was read yet; what is read goes into the buffer.
     pub(crate) fn of(part: InputPart<S>, room: IoBuffer) -> Self
@@ -96,41 +99,62 @@ impl<S: Source> PacketFeed<S> {
         }
     }
 
-    /// Puts the next packet into a cell.
-    pub(crate) fn next_packet(&mut self, cell: &mut Cell)
+    /// Puts the next packet into a slot.
+    pub(crate) fn next_packet(&mut self, packet: &mut Packet, mark: &mut Mark)
         requires ready { IsReady self.old }
         requires room { FeedHasRoom self.old }
         requires in_range { packets_put self.old < POSITION_LIMIT }
         ensures puts { (first : SourceView) (read : List ℕ) (rows : List (List ℕ))
             → FeedStands S.seen self.old first read rows None
-            → FeedPuts S.seen self.old self.new first read rows cell.new }
+            → FeedPuts S.seen self.old self.new first read rows (cell_of packet.new mark.new) }
         ensures room { FeedHasRoom self.new }
         ensures packets { packets_put self.new ≡ packets_put self.old + 1 }
     {
         match self {
-            PacketFeed::Stream(stream) => stream.next_packet(cell),
+            PacketFeed::Stream(stream) => stream.next_packet(packet, mark),
             PacketFeed::Nulls(nulls) => {
                 nulls.packets += 1;
-                cell.put(Packet::null());
+                *packet = Packet::null();
+                *mark = Mark::live();
             }
-            PacketFeed::Generated(generated) => generated.next_packet(cell),
+            PacketFeed::Generated(generated) => generated.next_packet(packet, mark),
         }
     }
 
-    /// Puts the packets in hand into the first cells, and returns how many.
-    pub(crate) fn put_in_hand(&mut self, cells: &mut [Cell]) -> usize
+    /// Reads straight into the packets of a window, where they come from a source and the next one has to be read.
+    pub(crate) fn fill_window(&mut self, window: Window<Packet>) -> PacketsRead
         requires room { FeedHasRoom self.old }
-        requires in_range { packets_put self.old + length cells.old ≤ POSITION_LIMIT }
-        ensures done { result ≤ length cells.old }
-        ensures rest { drop result cells.new ≡ drop result cells.old }
+        requires in_range { packets_put self.old + length window.cells ≤ POSITION_LIMIT }
+        ensures land { (result.window.land ≡ window.land) × (result.window.start ≡ window.start) }
+        ensures long { length result.window.cells ≡ length window.cells }
+        ensures within { result.count ≤ length window.cells }
+        ensures reads { (first : SourceView) (read : List ℕ) (rows : List (List ℕ))
+            → FeedStands S.seen self.old first read rows None
+            → FeedReads S.seen self.old self.new (length window.cells) first read rows
+            (take result.count result.window.cells) result.ended }
+        ensures room { FeedHasRoom self.new }
+        ensures packets { packets_put self.new ≡ packets_put self.old + result.count }
+    {
+        match self {
+            PacketFeed::Stream(stream) => stream.fill_window(window),
+            PacketFeed::Nulls(_) | PacketFeed::Generated(_) => nothing_read(window),
+        }
+    }
+
+    /// Puts the packets in hand into the first slots, and returns how many.
+    pub(crate) fn put_in_hand(&mut self, packets: &mut [Packet], marks: &mut [Mark]) -> usize
+        requires long { length marks.old ≡ length packets.old }
+        requires room { FeedHasRoom self.old }
+        requires in_range { packets_put self.old + length packets.old ≤ POSITION_LIMIT }
+        ensures done { result ≤ length packets.old }
         ensures puts { (first : SourceView) (read : List ℕ) (rows : List (List ℕ))
             → FeedStands S.seen self.old first read rows None
-            → FeedPutsAll S.seen self.old self.new first read rows (take result cells.new) }
+            → FeedPutsAll S.seen self.old self.new first read rows (take result (cells_of packets.new marks.new)) }
         ensures room { FeedHasRoom self.new }
         ensures packets { packets_put self.new ≡ packets_put self.old + result }
     {
         match self {
-            PacketFeed::Stream(stream) => stream.put_in_hand(cells),
+            PacketFeed::Stream(stream) => stream.put_in_hand(packets, marks),
             PacketFeed::Nulls(_) | PacketFeed::Generated(_) => 0,
         }
     }

@@ -5,12 +5,14 @@ ghost use Rattle.stage_run.specs.PluginSteps.{told_by};
 
 use crate::Work;
 use crate::telling::followed;
+use cell_land::CellWindow;
+use cell_rows::Mark;
 use chain_core::{News, StageEnd, StageWord};
 use plugin_trait::{Applied, Heard, Line, ListEnd, Plugin};
 use std::alloc::{AllocError, Global};
 use std::mem;
 use ts_outside::Gate;
-use ts_packet::Cell;
+use ts_packet::Packet;
 
 /// A plugin with the lines that it gave out, and whether its agreement was reported.
 pub struct PluginStage<P> {
@@ -34,6 +36,8 @@ fn told(end: ListEnd, news: &News, now: u64) -> Option<StageEnd>
 impl<P: Plugin> PluginStage<P> {
     ghost use Rattle.std.specs.Prelude.{◌≡◌, ◌≢◌, ℕ, ◌+◌, ◌-◌, ◌<◌, ◌≤◌, List, [], ◌++◌, length, take, drop, Option, None, Some, is_some};
     ghost use Rattle.ts_packet.specs.declared.cell.Cell.{Cell};
+    ghost use Rattle.cell_rows.specs.Cells.{cells_of};
+    ghost use Rattle.cell_land.specs.Cells.{SameSlots};
     ghost use Rattle.chain_model.specs.declared.positions.TheConstants.{POSITION_LIMIT};
     ghost use Rattle.chain_model.specs.Apply.{apply_after};
     ghost use Rattle.chain_model.specs.Joint.{agreement_of};
@@ -101,31 +105,32 @@ impl<P: Plugin> PluginStage<P> {
     }
 
     /// Gives the plugin the mark, keeps the lines up to it, and takes the plugin over the cells.
-    fn pass(&mut self, at: u64, cells: &mut [Cell], written: u64) -> Applied
+    fn pass(&mut self, at: u64, packets: &mut [Packet], marks: &mut [Mark], written: u64) -> Applied
+        requires long { length marks.old ≡ length packets.old }
         requires may { MayPass (P.stands_for self.old.heard.plugin) at written }
-        requires in_range { at + length cells.old ≤ POSITION_LIMIT }
-        ensures count { result.count ≤ length cells.old }
-        ensures rest { drop result.count cells.new ≡ drop result.count cells.old }
+        requires in_range { at + length packets.old ≤ POSITION_LIMIT }
+        ensures count { result.count ≤ length packets.old }
+        ensures rest { drop result.count (cells_of packets.new marks.new) ≡ drop result.count (cells_of packets.old marks.old) }
         ensures makes { (history : List Cell) (mark : ℕ)
             → Allows (P.stands_for self.old.heard.plugin) at written history mark
-            → Makes (apply_after (P.rule self.old.heard.plugin) history cells.old)
-            (take result.count cells.new) result.end }
+            → Makes (apply_after (P.rule self.old.heard.plugin) history (cells_of packets.old marks.old))
+            (take result.count (cells_of packets.new marks.new)) result.end }
         ensures far { (history : List Cell) (mark : ℕ)
             → Allows (P.stands_for self.old.heard.plugin) at written history mark
-            → apply_after (P.rule self.old.heard.plugin) history (take result.count cells.old)
-            ≡ made_so_far (take result.count cells.new) result.end }
+            → apply_after (P.rule self.old.heard.plugin) history (take result.count (cells_of packets.old marks.old))
+            ≡ made_so_far (take result.count (cells_of packets.new marks.new)) result.end }
         ensures met { (from : ℕ) (history : List Cell) (mark : ℕ)
             → Allows (HeardSince P.rule P.stands_for from self.old.heard) at written history mark
             → StandsTold (HeardSince P.rule P.stands_for from self.new.heard)
-            (history ++ take result.count cells.old) written result.end }
+            (history ++ take result.count (cells_of packets.old marks.old)) written result.end }
         ensures agreed { (history : List Cell) (mark : ℕ)
             → Allows (P.stands_for self.old.heard.plugin) at written history mark
             → self.old.agreed ≡ is_some (agreement_of (P.rule self.old.heard.plugin) history)
-            → TellsAgreement (P.rule self.old.heard.plugin) (history ++ take result.count cells.old)
+            → TellsAgreement (P.rule self.old.heard.plugin) (history ++ take result.count (cells_of packets.old marks.old))
             at result.agreed self.new.agreed }
         ensures same_rule { P.rule self.new.heard.plugin ≡ P.rule self.old.heard.plugin }
         ensures same_preallocated { P.preallocated self.new.heard.plugin ≡ P.preallocated self.old.heard.plugin }
-        ensures room { IsPreallocatedFor (P.preallocated self.old.heard.plugin) (at + length cells.old - written)
+        ensures room { IsPreallocatedFor (P.preallocated self.old.heard.plugin) (at + length packets.old - written)
             → result.end ≢ ListEnd.NoMemory }
     {
         let heard = &mut self.heard;
@@ -136,7 +141,7 @@ impl<P: Plugin> PluginStage<P> {
                 end: ListEnd::NoMemory,
             };
         }
-        heard.plugin.steps(at, cells, &mut self.agreed)
+        heard.plugin.steps(at, packets, marks, &mut self.agreed)
     }
 
     /// Gives the plugin the mark and takes it over all cells, between the two calls of the gate.
@@ -144,24 +149,26 @@ impl<P: Plugin> PluginStage<P> {
         &mut self,
         stage: usize,
         at: u64,
-        cells: &mut [Cell],
+        packets: &mut [Packet],
+        marks: &mut [Mark],
         news: &News,
         gate: &G,
     ) -> Work
+        requires long { length marks.old ≡ length packets.old }
         requires stands { MayWorkOnSome (PluginStands P.rule P.stands_for self.old) at news.now.written }
         requires written { news.now.written ≤ at }
-        requires in_hand { at + length cells.old ≤ news.now.taken }
-        requires in_range { at + length cells.old ≤ POSITION_LIMIT }
+        requires in_hand { at + length packets.old ≤ news.now.taken }
+        requires in_range { at + length packets.old ≤ POSITION_LIMIT }
         ensures same_rule { P.rule self.new.heard.plugin ≡ P.rule self.old.heard.plugin }
         ensures same_preallocated { P.preallocated self.new.heard.plugin ≡ P.preallocated self.old.heard.plugin }
         ensures work { PluginWork P.rule P.stands_for P.preallocated self.old self.new
-            at news.now cells.old cells.new result }
+            at news.now (cells_of packets.old marks.old) (cells_of packets.new marks.new) result }
     {
-        if cells.is_empty() {
+        if packets.is_empty() {
             return Work::ending(0, followed(news, at));
         }
-        gate.enter(stage, at, cells.len());
-        let stepped = self.pass(at, cells, news.written);
+        gate.enter(stage, at, packets.len());
+        let stepped = self.pass(at, packets, marks, news.written);
         gate.leave(stage);
         Work {
             done: stepped.count,
@@ -170,5 +177,45 @@ impl<P: Plugin> PluginStage<P> {
                 ended: told(stepped.end, news, at + stepped.count as u64),
             },
         }
+    }
+
+    /// The same, with the cells of a window.
+    pub(crate) fn work_on<G: Gate>(
+        &mut self,
+        stage: usize,
+        at: u64,
+        window: CellWindow,
+        news: &News,
+        gate: &G,
+    ) -> (Work, CellWindow)
+        requires stands { MayWorkOnSome (PluginStands P.rule P.stands_for self.old) at news.now.written }
+        requires written { news.now.written ≤ at }
+        requires in_hand { at + length window.cells ≤ news.now.taken }
+        requires in_range { at + length window.cells ≤ POSITION_LIMIT }
+        ensures same_rule { P.rule self.new.heard.plugin ≡ P.rule self.old.heard.plugin }
+        ensures same_preallocated { P.preallocated self.new.heard.plugin ≡ P.preallocated self.old.heard.plugin }
+        ensures work { PluginWork P.rule P.stands_for P.preallocated self.old self.new
+            at news.now window.cells result.1.cells result.0 }
+        ensures slots { SameSlots window result.1 }
+    {
+        let (mut packets, mut marks) = window.apart();
+        let work = self.work(
+            stage,
+            at,
+            packets.as_mut_slice(),
+            marks.as_mut_slice(),
+            news,
+            gate,
+        );
+        (work, CellWindow::of(packets, marks))
+    }
+
+    /// The work where no cell is in its hands.
+    pub(crate) fn work_on_none(&mut self, at: u64, news: &News) -> Work
+        requires stands { MayWorkOnSome (PluginStands P.rule P.stands_for self.old) at news.now.written }
+        ensures same_plugin { self.new ≡ self.old }
+        ensures work { PluginWork P.rule P.stands_for P.preallocated self.old self.new at news.now [] [] result }
+    {
+        Work::ending(0, followed(news, at))
     }
 }

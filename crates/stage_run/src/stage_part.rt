@@ -6,11 +6,11 @@
 use crate::{
     InputPart, InputStage, IoBuffer, OutputPart, OutputStage, PluginStage, Stuffing, Work,
 };
+use cell_land::CellWindow;
 use chain_core::News;
 use plugin_trait::{Heard, Line, Plugin};
 use std::alloc::{AllocError, Global};
 use ts_outside::{Gate, Sink, Source};
-use ts_packet::Cell;
 
 /// One stage of a chain: an input, a plugin or an output.
 ///
@@ -30,6 +30,7 @@ impl<S: Source, K: Sink, P: Plugin> StagePart<S, K, P> {
     ghost use Rattle.chain_core.specs.declared.stage_end.StageEnd.{StageEnd};
     ghost use Rattle.ts_outside.specs.Source.{SourceView};
     ghost use Rattle.ts_outside.specs.Sink.{SinkView};
+    ghost use Rattle.cell_land.specs.Cells.{SameSlots};
     ghost use Rattle.plugin_trait.specs.Steps.{MeetsCells};
     ghost use Rattle.plugin_trait.specs.HeardStands.{HeardStands};
     ghost use Rattle.stage_run.specs.Seeing.{seeing};
@@ -171,22 +172,39 @@ impl<S: Source, K: Sink, P: Plugin> StagePart<S, K, P> {
         &mut self,
         stage: usize,
         at: u64,
-        cells: &mut [Cell],
+        window: CellWindow,
         news: &News,
         gate: &G,
-    ) -> Work
+    ) -> (Work, CellWindow)
         requires stands { MayWorkOnSome (PartStands (seeing S.seen K.seen P.rule P.stands_for P.preallocated)
             self.old) at news.now.written }
         requires written { news.now.written ≤ at }
-        requires in_hand { at + length cells.old ≤ news.now.taken }
+        requires in_hand { at + length window.cells ≤ news.now.taken }
         requires in_range { news.now.taken ≤ POSITION_LIMIT }
-        ensures { PartWork (seeing S.seen K.seen P.rule P.stands_for P.preallocated) self.old self.new
-            at news.now cells.old cells.new result }
+        ensures work { PartWork (seeing S.seen K.seen P.rule P.stands_for P.preallocated) self.old self.new
+            at news.now window.cells result.1.cells result.0 }
+        ensures slots { SameSlots window result.1 }
     {
         match self {
-            StagePart::Input(input) => input.work(at, cells, news),
-            StagePart::Plugin(plugin) => plugin.work(stage, at, cells, news, gate),
-            StagePart::Output(output) => output.work(at, cells, news),
+            StagePart::Input(input) => input.work(at, window, news),
+            StagePart::Plugin(plugin) => plugin.work_on(stage, at, window, news, gate),
+            StagePart::Output(output) => output.work(at, window, news),
+        }
+    }
+
+    /// Works where no cell is in the stage's hands: it may end.
+    pub fn work_on_none(&mut self, at: u64, news: &News) -> Work
+        requires stands { MayWorkOnSome (PartStands (seeing S.seen K.seen P.rule P.stands_for P.preallocated)
+            self.old) at news.now.written }
+        requires written { news.now.written ≤ at }
+        requires in_range { at ≤ POSITION_LIMIT }
+        ensures { PartWork (seeing S.seen K.seen P.rule P.stands_for P.preallocated) self.old self.new
+            at news.now [] [] result }
+    {
+        match self {
+            StagePart::Input(input) => input.work_on_none(at, news),
+            StagePart::Plugin(plugin) => plugin.work_on_none(at, news),
+            StagePart::Output(output) => output.work_on_none(at, news),
         }
     }
 }

@@ -16,7 +16,7 @@ use Rattle.chain_core.specs.ChainRun.{ChainRun, state_after}
 use Rattle.chain_core.specs.Laws.{ChangesOneStage, NewsHold}
 use Rattle.chain_core.proofs.Soundness.{Sound, run-sound, users_from}
 use Rattle.ts_packet.specs.declared.cell.Cell.{Cell}
-use Rattle.ts_land.specs.Pieces.{Land, Piece}
+use Rattle.cell_land.specs.Cells.{CellLand as Land, CellPiece}
 use Rattle.window_ring.specs.Hands.{Row, row_of, LiftsFront}
 use Rattle.window_ring.specs.declared.view.Key.{Key}
 use Rattle.window_ring.specs.declared.stage_seat.StageSeat.{StageSeat}
@@ -127,6 +127,6 @@ module _ (laws : SeatLaws) (changes : (plan : CorePlan) (state : ChainState) (vi
   }
 
 -- what was lifted is put back
-pub back_again : (old rest final : Row) (w : Piece Cell) → LiftsFront old rest w → final ≡ row_of old.at rest.land (w.cells ++ rest.cells) → final ≡ old
+pub back_again : (old rest final : Row) (w : CellPiece) → LiftsFront old rest w → final ≡ row_of old.at rest.land (w.cells ++ rest.cells) → final ≡ old
 back_again old rest final w lifts back =
     back ∙ ap (λ (l : Land). row_of old.at l (w.cells ++ rest.cells)) lifts.same ∙ ap (λ (l : List Cell). row_of old.at old.land l) (sym lifts.cells)

@@ -7,6 +7,8 @@ ghost use Rattle.stage_run.specs.Parts.{IsUnused};
 
 use crate::compared::same;
 use crate::stops_at::{StopsAt, stopping};
+use cell_land::{CellWindow, cell_land};
+use cell_rows::Mark;
 use chain_core::{InputEnd, News, StageEnd};
 use plugin_trait::{Heard, Plugin};
 use stage_run::{InputPart, IoBuffer, OutputPart, StagePart, Stuffing, Work};
@@ -117,13 +119,67 @@ fn plugin<S: Source, K: Sink, P: Plugin>(plugin: Heard<P>) -> StagePart<S, K, P>
     StagePart::of_plugin(plugin)
 }
 
+/// Puts cells into the slots of two rows.
+fn put_cells(cells: &[Cell], packets: &mut [Packet], marks: &mut [Mark])
+    requires packets { length packets.old ≡ length cells.now }
+    requires marks { length marks.old ≡ length cells.now }
+{
+    for i in 0..cells.len() {
+        if let Some(live) = cells[i].live() {
+            packets[i] = live.packet;
+            marks[i] = Mark {
+                labels: live.labels,
+                is_live: true,
+            };
+        }
+    }
+}
+
+/// Takes the cells out of two rows.
+fn take_cells(packets: &[Packet], marks: &[Mark], cells: &mut [Cell])
+    requires packets { length packets.now ≡ length cells.old }
+    requires marks { length marks.now ≡ length cells.old }
+{
+    for i in 0..cells.len() {
+        cells[i] = if marks[i].is_live {
+            Cell::of(packets[i], marks[i].labels)
+        } else {
+            Cell::dropped()
+        };
+    }
+}
+
+/// The cells in a block of their own.
+fn window_of(rt: &(impl Abort + AllocGlobal), cells: &[Cell]) -> CellWindow
+    requires some { 0 < length cells.now }
+    ensures whole { length result.cells ≡ result.land.count }
+    ensures long { length result.cells ≡ length cells.now }
+{
+    let window = cell_land(rt.alloc(), cells.len()).expect(rt, "memory");
+    let (mut packets, mut marks) = window.apart();
+    put_cells(cells, packets.as_mut_slice(), marks.as_mut_slice());
+    CellWindow::of(packets, marks)
+}
+
+/// Puts the cells of such a block back, and frees it.
+fn end_window(window: CellWindow, cells: &mut [Cell])
+    requires whole { length window.cells ≡ window.land.count }
+    requires long { length window.cells ≡ length cells.old }
+{
+    let (packets, marks) = window.apart();
+    take_cells(packets.as_slice(), marks.as_slice(), cells);
+    CellWindow::of(packets, marks).close();
+}
+
 /// The work of a stage on cells after `at` others. It may work on the next ones too, unless it has ended.
 fn work<S: Source, K: Sink, P: Plugin>(
+    rt: &(impl Abort + AllocGlobal),
     part: &mut StagePart<S, K, P>,
     at: u64,
     cells: &mut [Cell],
     limit: Option<u64>,
 ) -> Work
+    requires some { 0 < length cells.old }
     requires may { MayWorkOnSome (PartStands (seeing S.seen K.seen P.rule P.stands_for P.preallocated) part.old) at
         0 }
     requires few { at + length cells.old ≤ 10 }
@@ -133,7 +189,10 @@ fn work<S: Source, K: Sink, P: Plugin>(
         (at + result.done) 0 }
     ensures kind { kind_of part.new ≡ kind_of part.old }
 {
-    part.work(1, at, cells, &news(limit), &OpenGate)
+    let window = window_of(rt, cells);
+    let (work, window) = part.work(1, at, window, &news(limit), &OpenGate);
+    end_window(window, cells);
+    work
 }
 
 /// Closes the source of an input. Returns how many packets an input without a source has.
@@ -180,7 +239,10 @@ struct Gave {
 }
 
 /// Works on three windows, each after the cells that were put before it.
-fn gives<S: Source, K: Sink, P: Plugin>(part: &mut StagePart<S, K, P>) -> Gave
+fn gives<S: Source, K: Sink, P: Plugin>(
+    rt: &(impl Abort + AllocGlobal),
+    part: &mut StagePart<S, K, P>,
+) -> Gave
     requires may { MayWorkOnSome (PartStands (seeing S.seen K.seen P.rule P.stands_for P.preallocated) part.old) 0 0 }
     ensures kind { kind_of part.new ≡ kind_of part.old }
 {
@@ -189,7 +251,7 @@ fn gives<S: Source, K: Sink, P: Plugin>(part: &mut StagePart<S, K, P>) -> Gave
         second: two(),
         third: two(),
     };
-    let first = work(part, 0, &mut windows.first, None);
+    let first = work(rt, part, 0, &mut windows.first, None);
     let mut gave = Gave {
         first,
         second: None,
@@ -200,11 +262,11 @@ fn gives<S: Source, K: Sink, P: Plugin>(part: &mut StagePart<S, K, P>) -> Gave
         return gave;
     }
     let at = first.done as u64;
-    let second = work(part, at, &mut gave.windows.second, None);
+    let second = work(rt, part, at, &mut gave.windows.second, None);
     gave.second = Some(second);
     if second.word.ended.is_none() {
         let at = at + second.done as u64;
-        gave.third = Some(work(part, at, &mut gave.windows.third, None));
+        gave.third = Some(work(rt, part, at, &mut gave.windows.third, None));
     }
     gave
 }
@@ -281,7 +343,7 @@ fn part_of(
 
 /// Works on three windows with an input, and returns the input.
 fn gives_and_ends<S: Source, K: Sink, P: Plugin>(
-    rt: &impl Abort,
+    rt: &(impl Abort + AllocGlobal),
     part: InputPart<S>,
     room: IoBuffer,
     row: &InputRow,
@@ -289,7 +351,7 @@ fn gives_and_ends<S: Source, K: Sink, P: Plugin>(
     requires { IsUnused part }
 {
     let mut part: StagePart<S, K, P> = input(part, row.start, room);
-    gave_so(rt, &gives(&mut part), row);
+    gave_so(rt, &gives(rt, &mut part), row);
     part.into_input()
 }
 
@@ -416,11 +478,15 @@ fn inputs_give_as_their_rows_say(rt: HostRuntime) -> Result<(), Fail> {
 }
 
 /// Works on four cells with a plugin, and returns the plugin.
-fn edits<S: Source, K: Sink, P: Plugin>(stage: Heard<P>, cells: &mut [Cell; 4]) -> (Heard<P>, Work)
+fn edits<S: Source, K: Sink, P: Plugin>(
+    rt: &(impl Abort + AllocGlobal),
+    stage: Heard<P>,
+    cells: &mut [Cell; 4],
+) -> (Heard<P>, Work)
     requires fresh { HeardStands P.rule P.stands_for stage [] 0 }
 {
     let mut part: StagePart<S, K, P> = plugin(stage);
-    let work = work(&mut part, 0, cells, None);
+    let work = work(rt, &mut part, 0, cells, None);
     (part.into_plugin(), work)
 }
 
@@ -435,9 +501,10 @@ fn four() -> [Cell; 4] {
 }
 
 /// Works on four cells with a plugin that stops at a position. Returns the position that it then has, and what was done.
-fn stops(alloc: Global, position: u64, cells: &mut [Cell; 4]) -> (u64, Did) {
+fn stops(rt: &(impl Abort + AllocGlobal), position: u64, cells: &mut [Cell; 4]) -> (u64, Did) {
     let (stops, work) = edits::<MemorySource, MemorySink, StopsAt>(
-        stopping(alloc, position),
+        rt,
+        stopping(rt.alloc(), position),
         cells,
     );
     (stops.plugin.steps.position, done_by(work))
@@ -446,9 +513,9 @@ fn stops(alloc: Global, position: u64, cells: &mut [Cell; 4]) -> (u64, Did) {
 #[test]
 fn a_plugin_passes_and_stops(rt: HostRuntime) {
     let mut cells = four();
-    let passed = stops(rt.alloc(), 4, &mut cells);
+    let passed = stops(&rt, 4, &mut cells);
     same(&rt, passed, (4, (4, None)));
-    let stopped = stops(rt.alloc(), 1, &mut cells);
+    let stopped = stops(&rt, 1, &mut cells);
     same(&rt, stopped, (1, (2, Some(StageEnd::Stop))));
 }
 
@@ -465,14 +532,14 @@ struct OutputRow {
 
 /// Works on four cells with an output, and returns the output.
 fn writes<S: Source, K: Sink, P: Plugin>(
-    rt: &impl Abort,
+    rt: &(impl Abort + AllocGlobal),
     part: OutputPart<K>,
     room: IoBuffer,
     row: &OutputRow,
 ) -> OutputPart<K> {
     let mut part: StagePart<S, K, P> = output(part, room);
     let mut cells = four();
-    let work = work(&mut part, 0, &mut cells, row.limit);
+    let work = work(rt, &mut part, 0, &mut cells, row.limit);
     same(rt, done_by(work), row.did);
     part.into_output()
 }
@@ -504,7 +571,7 @@ fn output_len(desk: &MemoryDesk) -> Option<usize> {
 
 /// Writes four cells, and closes the sink.
 fn runs_output(
-    rt: &impl Abort,
+    rt: &(impl Abort + AllocGlobal),
     desk: &mut MemoryDesk,
     room: IoBuffer,
     row: &OutputRow,

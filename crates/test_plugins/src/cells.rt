@@ -3,8 +3,9 @@
 ghost use Rattle.std.specs.Prelude.{◌≡◌, ◌<◌, ◌≤◌, [], ℕ, Some, IfOk, vec_len};
 ghost use Rattle.chain_model.specs.declared.positions.TheConstants.{POSITION_LIMIT};
 
+use crate::applied::apply;
 use crate::compared::{holds, same, same_bytes};
-use plugin_trait::{ListEnd, Plugin, apply_plugin};
+use plugin_trait::{ListEnd, Plugin};
 use std::alloc::{AllocError, Global};
 use std::process::Abort;
 use std::test::Fail;
@@ -87,7 +88,7 @@ pub(crate) fn given<P: Plugin + Drop>(
     requires short { vec_len cells ≤ POSITION_LIMIT }
 {
     let mut plugin = plugin?;
-    let end = apply_plugin(&mut plugin, &mut cells);
+    let end = apply(&mut plugin, &mut cells);
     Ok((end, cells))
 }
 

@@ -2,9 +2,10 @@
 ghost use Rattle.std.specs.Prelude.{[], ◌≤◌, ◌^◌, vec_len};
 ghost use Rattle.plug_end.specs.UntilSettings.{IsValidUntil};
 
+use crate::applied::apply;
 use crate::compared::same;
 use plug_end::{Until, UntilConf};
-use plugin_trait::{ListEnd, Plugin, apply_plugin};
+use plugin_trait::{ListEnd, Plugin};
 use std::alloc::Global;
 use std::process::Abort;
 use std::test::Fail;
@@ -41,7 +42,7 @@ fn end_and_agreement(until: &mut Until, cells: &mut Vec<Cell>) -> (ListEnd, bool
     requires fresh { ⟦<Until as Plugin>⟧.stands_for until.old [] 0 }
     requires in_range { vec_len cells.old ≤ 2 ^ 60 }
 {
-    let end = apply_plugin(until, cells);
+    let end = apply(until, cells);
     (end, until.agreed())
 }
 

@@ -3,6 +3,8 @@
 #![tactic(auto)]
 
 #[cfg(test)]
+mod applied;
+#[cfg(test)]
 mod cells;
 #[cfg(test)]
 mod compared;

@@ -1,11 +1,12 @@
 //! Tests of `count` and `continuity`.
 ghost use Rattle.std.specs.Prelude.{◌<◌, ◌≤◌, ◌^◌, [], IfOk, vec_len};
 
+use crate::applied::apply;
 use crate::cells::counter_of;
 use crate::compared::{same, same_bytes};
 use plug_watch::{Continuity, ContinuityConf, Count, CountConf};
 use plugin_options::NumberSet;
-use plugin_trait::{Heard, Line, ListEnd, Plugin, apply_plugin, report};
+use plugin_trait::{Heard, Line, ListEnd, Plugin, report};
 use std::alloc::{AllocError, Global};
 use std::process::Abort;
 use std::test::Fail;
@@ -33,7 +34,7 @@ fn run<P: Plugin + Drop>(
     requires short { vec_len cells.old < 1000 }
 {
     let mut plugin = plugin?;
-    let end = apply_plugin(&mut plugin, cells);
+    let end = apply(&mut plugin, cells);
     let mut heard = Heard {
         plugin,
         lines: Vec::new(alloc),

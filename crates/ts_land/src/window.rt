@@ -20,12 +20,12 @@ use std_alloc::vec::Lodged;
 /// Contracts see its block, the slot of its first value, and its values. The windows of a block have to be joined
 /// until one of them is the whole block, which `close` frees. No method allocates.
 pub struct Window<T: Slot> {
-    cells: Vec<T, Lodged>,
-    start: usize,
-    base: *mut T,
-    count: usize,
+    pub(crate) cells: Vec<T, Lodged>,
+    pub(crate) start: usize,
+    pub(crate) base: *mut T,
+    pub(crate) count: usize,
     // The block's owner, in the window that has its first value.
-    owner: Option<Owner<T, Global>>,
+    pub(crate) owner: Option<Owner<T, Global>>,
 }
 
 impl<T: Slot> Model for Window<T> {

@@ -1,17 +1,16 @@
 -- The cells up to the block's end, taken out and put back.
 use Rattle.std.proofs.Common.{⊎_elim, inl, inr, ◌≡◌, ℕ, ◌+◌, ◌%◌, ◌≤◌, [], length, Option, None, Some, refl, ap, ◌∙◌, arith, length-append}
-use denote.RawPtr.{Ptr}
-use Rattle.ts_packet.specs.declared.cell.Cell.{Cell}
-use Rattle.ts_land.specs.Pieces.{Piece}
+use Rattle.cell_land.specs.declared.cell_window.Bases.{Bases}
+use Rattle.cell_land.specs.Cells.{CellPiece}
 use Rattle.window_ring.specs.Hands.{row_of, pieces, IsHand, IsFront}
 use Rattle.window_ring.proofs.HandLemmas.{next_lap, some_cell}
 
-module _ (at : ℕ) (base : Ptr) (count : ℕ) (w : Piece Cell) where
-  pub front_of : (second : Option (Piece Cell)) → IsHand at base count (Some w) second → length (pieces (Some w) second) ≤ count → IsFront at (row_of (at + length w.cells) (record { base = base; count = count }) (pieces second None)) w
+module _ (at : ℕ) (base : Bases) (count : ℕ) (w : CellPiece) where
+  pub front_of : (second : Option CellPiece) → IsHand at base count (Some w) second → length (pieces (Some w) second) ≤ count → IsFront at (row_of (at + length w.cells) (record { base = base; count = count }) (pieces second None)) w
   front_of None h fits = record { land = h.1.land; start = h.1.start; some = h.1.some; inside = h.1.inside; ends = inl refl; next = refl; fits = omega (arith, h.1.inside) }
   front_of (Some u) h fits = record { land = h.1.land; start = h.1.start; some = h.1.some; inside = h.1.inside; ends = inr h.3; next = refl; fits = omega (arith, fits, length-append w.cells u.cells, length-append u.cells []) }
 
-  pub put_before : (next : ℕ) (first second : Option (Piece Cell)) → IsHand next base count first second → IsFront at (row_of next (record { base = base; count = count }) (pieces first second)) w → (second ≡ None) × IsHand at base count (Some w) first
+  pub put_before : (next : ℕ) (first second : Option CellPiece) → IsHand next base count first second → IsFront at (row_of next (record { base = base; count = count }) (pieces first second)) w → (second ≡ None) × IsHand at base count (Some w) first
   put_before next None None h f = (refl, (h, record { land = f.land; start = f.start; some = f.some; inside = f.inside }))
   put_before next None (Some u) h f = absurd h
   put_before next (Some v) None h f = (

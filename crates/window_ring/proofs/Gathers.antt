@@ -116,13 +116,13 @@ module _ (key : Key) (table : TableId) (valid : IsValidPlan key.plan)
       fits_block = let a = p.many in let b = hand_is.cells in let c = falls n1 j stage in omega (arith, a, b, c)
 
       pub fits : length seat.hand.cells + length left.all.cells ≤ seat.hand.land.count
-      fits = subst (λ (l : Rattle.ts_land.specs.Pieces.Land). length seat.hand.cells + length left.all.cells ≤ l.count) (sym hand_is.same) fits_block
+      fits = subst (λ (l : Rattle.cell_land.specs.Cells.CellLand). length seat.hand.cells + length left.all.cells ≤ l.count) (sym hand_is.same) fits_block
 
       abbrev both : Row
       both = row_of seat.hand.at seat.hand.land (seat.hand.cells ++ left.all.cells)
 
       pub whole : j ≡ n1 → length both.cells ≡ both.land.count
-      whole e = subst (λ (l : Rattle.ts_land.specs.Pieces.Land). length both.cells ≡ l.count) (sym hand_is.same)
+      whole e = subst (λ (l : Rattle.cell_land.specs.Cells.CellLand). length both.cells ≡ l.count) (sym hand_is.same)
           (let a = p.many in let b = hand_is.cells in let g : G n1 ≡ G j = ap G (sym e) in let l = length-append seat.hand.cells left.all.cells in omega (arith, a, b, g, l))
 
       -- the link before it
@@ -137,7 +137,7 @@ module _ (key : Key) (table : TableId) (valid : IsValidPlan key.plan)
         link_same = hand_is.same ∙ sym link_is.1
 
         pub link_fits : length row.cells + length both.cells ≤ row.land.count
-        link_fits = subst (λ (l : Rattle.ts_land.specs.Pieces.Land). length row.cells + length both.cells ≤ l.count) (sym link_is.1)
+        link_fits = subst (λ (l : Rattle.cell_land.specs.Cells.CellLand). length row.cells + length both.cells ≤ l.count) (sym link_is.1)
             (let a = p.many in let b = hand_is.cells in let c = link_is.2 in let d = falls n1 (suc j) inner in let e = within (suc j) in let l = length-append seat.hand.cells left.all.cells in omega (arith, a, b, c, d, e, l))
 
         pub parted_more : (new : Left) → new.all ≡ row_of row.at row.land (row.cells ++ both.cells) → new.links.items ≡ rest → new.closed ≡ left.closed → Parted key s (suc j) new

@@ -6,7 +6,7 @@ use Rattle.chain_core.specs.Numbers.{UsersArePlugins}
 use Rattle.chain_core.specs.Machine.{Visit, visited, ChainState, Allowed}
 use Rattle.chain_core.specs.ChainRun.{ChainRun, state_after}
 use Rattle.chain_core.specs.Laws.{ChangesOneStage, LeavesOthers}
-use Rattle.ts_land.specs.Pieces.{Land}
+use Rattle.cell_land.specs.Cells.{CellLand as Land}
 use Rattle.window_ring.specs.Hands.{Row}
 use Rattle.window_ring.specs.declared.state.State.{State}
 use Rattle.chain_core.specs.CoreNumbers.{IsValidPlan}

@@ -50,7 +50,7 @@ module _ (plan : CorePlan) (key : Key) (slots : List State) (ready : IsReady pla
       let m : length first.cells + 0 ≡ 0 + key.plan.buffer = subst (λ (s : ChainState). length first.cells + (s.stages 0).taken ≡ length (s.stages (suc key.plan.plugins)).given + key.plan.buffer) (unvisited key.plan)
       (ap (λ (r : Row). length r.cells + ((state_after key.plan []).stages 0).taken) (sym f) ∙ st.free_many) in
       let l : first.land ≡ land_of key = ap (λ (r : Row). r.land) (sym f) ∙ st.free_land in
-      let b : first.land.count ≡ key.plan.buffer = ap (λ (x : Rattle.ts_land.specs.Pieces.Land). x.count) l in omega (arith, m, b)
+      let b : first.land.count ≡ key.plan.buffer = ap (λ (x : Rattle.cell_land.specs.Cells.CellLand). x.count) l in omega (arith, m, b)
 
   pub none_waits : (i : ℕ) (d : Row) → i < length rest → (slice_index_or rest i d).cells ≡ []
   none_waits i d lt =

@@ -1,7 +1,6 @@
 -- What a seat knows of the ring. This project's own rule.
 use Rattle.std.specs.Prelude.{◌≡◌, ◌≢◌, ℕ, List, [], ◌∷◌, ◌++◌, true, false}
-use denote.RawPtr.{null_ptr}
-use Rattle.ts_land.specs.Pieces.{Land}
+use Rattle.cell_land.specs.Cells.{CellLand as Land, no_bases}
 use Rattle.chain_model.specs.Each.{Each}
 use Rattle.chain_core.specs.Machine.{Visit}
 use Rattle.window_ring.specs.declared.view.Key.{Key}
@@ -48,7 +47,7 @@ abbrev pub spent_view : View
 spent_view = record {
   key = record {
     plan = record { plugins = 0; buffer = 0; most = 0; users = record { bits = 0 } };
-    base = null_ptr;
+    base = no_bases;
   };
   is_root = false;
   made = 0;

@@ -1,7 +1,7 @@
 -- What one visit of the ring does. This project's own rule.
 use Rattle.std.specs.Prelude.{◌≡◌, ℕ, suc, ◌+◌, ◌-◌, ◌≤◌, List, ◌∷◌, length, take, drop}
 use Rattle.ts_packet.specs.declared.cell.Cell.{Cell}
-use Rattle.ts_land.specs.Pieces.{Land}
+use Rattle.cell_land.specs.Cells.{CellLand as Land}
 use Rattle.chain_core.specs.declared.news.News.{News}
 use Rattle.chain_core.specs.declared.stage_word.StageWord.{StageWord}
 use Rattle.chain_core.specs.CoreNumbers.{IsValidPlan}

@@ -4,19 +4,18 @@ ghost use Rattle.std.specs.Prelude.{if◌then◌else◌, ◌≡◌, ◌+◌, ◌
 ghost use Rattle.std.specs.Prelude.{None, Some};
 ghost use Rattle.window_ring.specs.Hands.{row_of, land_at, pieces, IsHand, IsFront, LiftsFront};
 
+use cell_land::{Bases, CellWindow};
 use std::marker::Model;
 use std::mem;
-use ts_land::Window;
-use ts_packet::Cell;
 
 /// Cells at successive positions, in at most two windows of the block, since they wrap around at most once.
 pub struct Hand {
     at: u64,
-    base: *mut Cell,
+    base: Bases,
     count: usize,
     // Neither is empty, and there is no second one without the first.
-    first: Option<Window<Cell>>,
-    second: Option<Window<Cell>>,
+    first: Option<CellWindow>,
+    second: Option<CellWindow>,
 }
 
 impl Model for Hand {
@@ -37,10 +36,10 @@ impl Hand {
     // A hand of these windows.
     fn of(
         at: u64,
-        base: *mut Cell,
+        base: Bases,
         count: usize,
-        first: Option<Window<Cell>>,
-        second: Option<Window<Cell>>,
+        first: Option<CellWindow>,
+        second: Option<CellWindow>,
     ) -> Hand
         requires { IsHand at base count first second }
         ensures { result ≡ row_of at (land_at base count) (pieces first second) }
@@ -234,7 +233,7 @@ impl Hand {
     }
 
     /// No cells.
-    pub(crate) fn none(base: *mut Cell, count: usize) -> Hand
+    pub(crate) fn none(base: Bases, count: usize) -> Hand
         requires { 0 < count }
         ensures { result ≡ row_of 0 (land_at base count) [] }
     {
@@ -242,11 +241,11 @@ impl Hand {
     }
 
     /// All cells of a block.
-    pub(crate) fn whole(window: Window<Cell>) -> Hand
+    pub(crate) fn whole(window: CellWindow) -> Hand
         requires { (window.start ≡ 0) × (length window.cells ≡ window.land.count) × (0 < window.land.count) }
         ensures { result ≡ row_of 0 window.land window.cells }
     {
-        let base = window.base();
+        let base = window.bases();
         let count = window.len();
         Hand::of(0, base, count, Some(window), None)
     }
@@ -273,7 +272,7 @@ impl Hand {
     }
 
     /// Takes the cells up to the block's end out.
-    pub(crate) fn lift_front(&mut self) -> Option<Window<Cell>>
+    pub(crate) fn lift_front(&mut self) -> Option<CellWindow>
         requires low { self.old.at + length self.old.cells < 2 ^ 63 }
         ensures none { IfNone result ((self.old.cells ≡ []) × (self.new ≡ self.old)) }
         ensures some { IfSome result (λ w. LiftsFront self.old self.new w) }
@@ -299,7 +298,7 @@ impl Hand {
     }
 
     /// Puts them back, before the others.
-    pub(crate) fn put_front(&mut self, window: Window<Cell>)
+    pub(crate) fn put_front(&mut self, window: CellWindow)
         requires { (at : ℕ) × IsFront at self.old window }
         ensures { (at : ℕ) → IsFront at self.old window
             → self.new ≡ row_of at self.old.land (window.cells ++ self.old.cells) }
@@ -327,10 +326,10 @@ impl Hand {
 // A cut after the first window.
 fn cut_after(
     at: u64,
-    base: *mut Cell,
+    base: Bases,
     count: usize,
-    first: Window<Cell>,
-    second: Option<Window<Cell>>,
+    first: CellWindow,
+    second: Option<CellWindow>,
     n: usize,
 ) -> (Hand, Hand)
     requires hand { IsHand at base count (Some first) second }
@@ -359,7 +358,7 @@ fn cut_after(
 }
 
 // Drops no window.
-fn nothing(window: Option<Window<Cell>>)
+fn nothing(window: Option<CellWindow>)
     requires { window ≡ None }
 {
     match window {

@@ -4,7 +4,7 @@ ghost use Rattle.std.specs.Prelude.{IfOk, ◌≡◌, ◌+◌, ◌≤◌, ◌<◌
 ghost use Rattle.chain_core.specs.CoreNumbers.{IsValidPlan};
 ghost use Rattle.chain_core.specs.declared.core_plan.CorePlan.{CorePlan};
 ghost use Rattle.window_ring.specs.declared.view.Key.{Key};
-ghost use Rattle.ts_land.specs.Pieces.{Land};
+ghost use Rattle.cell_land.specs.Cells.{CellLand as Land};
 ghost use Rattle.window_ring.specs.declared.stage_seat.StageSeat.{StageSeat};
 ghost use Rattle.window_ring.specs.Hands.{Row, row_of, land_at};
 ghost use Rattle.window_ring.specs.Views.{root_view, land_of};
@@ -18,10 +18,9 @@ use crate::stage_seat::StageSeat;
 use crate::state::{Last, State};
 use crate::view::{Key, View};
 use atomic_table::{Refused, Seat};
+use cell_land::{Bases, cell_land};
 use chain_core::{Core, CorePlan, StageWord};
 use std::alloc::{AllocError, Global};
-use ts_land::land;
-use ts_packet::Cell;
 
 /// A new ring, in which nothing was given or taken.
 pub struct NewRing {
@@ -51,7 +50,7 @@ fn bells_of(alloc: Global, stages: usize) -> Result<Vec<Bell>, AllocError> {
 }
 
 // Appends empty hands to those that are there.
-fn fill_links(links: &mut Vec<Hand>, base: *mut Cell, count: usize, len: usize)
+fn fill_links(links: &mut Vec<Hand>, base: Bases, count: usize, len: usize)
     requires some { 0 < count }
     requires room { len ≤ vec_capacity links.old }
     requires less { vec_len links.old ≤ len }
@@ -71,7 +70,7 @@ fn fill_seats(
     ring: &Ring,
     root: &mut Seat<State, View>,
     seats: &mut Vec<StageSeat>,
-    base: *mut Cell,
+    base: Bases,
     count: usize,
     stages: usize,
 )
@@ -120,13 +119,13 @@ fn set_up(alloc: Global, plan: &CorePlan) -> Result<Ready, AllocError>
         seats.destroy_empty();
         return Err(AllocError);
     };
-    let Ok(window) = land(alloc, plan.buffer, Cell::dropped()) else {
+    let Ok(window) = cell_land(alloc, plan.buffer) else {
         links.destroy_empty();
         seats.destroy_empty();
         slots.destroy_empty();
         return Err(AllocError);
     };
-    let base = window.base();
+    let base = window.bases();
     links.push_reserved(Hand::whole(window));
     fill_links(&mut links, base, plan.buffer, stages);
     let last = Last {

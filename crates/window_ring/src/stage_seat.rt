@@ -10,8 +10,7 @@ use crate::hand::Hand;
 use crate::state::State;
 use crate::view::View;
 use atomic_table::Seat;
-use ts_land::Window;
-use ts_packet::Cell;
+use cell_land::CellWindow;
 
 /// The seat of a stage: its place in the ring, and the cells in its hands, which it has taken and not given.
 ///
@@ -39,7 +38,7 @@ impl StageSeat {
 
     /// The first cells in hand, up to the block's end, to be changed where they are; none where the hands
     /// are empty. They are to be put back by `put_front` before the next visit.
-    pub fn lift_front(&mut self) -> Option<Window<Cell>>
+    pub fn lift_front(&mut self) -> Option<CellWindow>
         requires low { self.old.hand.at + length self.old.hand.cells < 2 ^ 63 }
         ensures none { IfNone result ((self.old.hand.cells ≡ []) × (self.new.hand ≡ self.old.hand)) }
         ensures some { IfSome result (λ w. LiftsFront self.old.hand self.new.hand w) }
@@ -50,7 +49,7 @@ impl StageSeat {
     }
 
     /// Puts back what was lifted, changed or not. No other cells may be put back.
-    pub fn put_front(&mut self, window: Window<Cell>)
+    pub fn put_front(&mut self, window: CellWindow)
         requires { (at : ℕ) × IsFront at self.old.hand window }
         ensures hand { (at : ℕ) → IsFront at self.old.hand window
             → self.new.hand ≡ row_of at self.old.hand.land (window.cells ++ self.old.hand.cells) }

@@ -5,6 +5,7 @@
 //! were found with the turn since the seat's last visit. Without that, a visit that always answers `Busy`, and never
 //! looks, would meet the clause.
 
+use cell_land::Bases;
 use chain_core::{CorePlan, StageWord};
 use std::collections::LinkedList;
 use std::marker::Model;
@@ -61,5 +62,5 @@ pub struct Key {
     /// The chain's plan.
     pub plan: CorePlan,
     /// Where the block begins. The address gives no access to it.
-    pub base: *mut Cell,
+    pub base: Bases,
 }

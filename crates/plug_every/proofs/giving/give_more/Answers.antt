@@ -1,8 +1,5 @@
-use Rattle.std.proofs.Common.{◌≡◌, ◌≤◌, ℕ, List, Bool, ◌∷◌, ◌∙◌, length}
-use Rattle.ts_packet.specs.declared.cell.Cell.{Cell}
-use Rattle.chain_model.specs.PluginRule.{PluginRule}
-use Rattle.plug_every.specs.declared.due.Due.{Due}
-use Rattle.plug_every.proofs.Between.{IsNext, is_next}
+use Rattle.std.proofs.Common.{◌∙◌}
+use Rattle.plug_every.proofs.Between.{is_next}
 use Rattle.plug_every.proofs.GivenDue.{noted_given, one_given}
 use Rattle.plug_every.proofs.giving.give_more.Goals as goal
 

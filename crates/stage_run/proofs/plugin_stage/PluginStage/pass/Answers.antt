@@ -1,5 +1,6 @@
 use Rattle.std.proofs.Common.{◌≡◌, ◌≤◌, ℕ, ◌+◌, ◌-◌, List, [], ◌++◌, length, ap, refl, sym, subst, ◌∙◌, arith, length-append, append-nil, take, is_some, Bool, true, false, not, if◌then◌else◌, Result, is_ok, IsOk, Option, None, Some, IsSome}
 use Rattle.ts_packet.specs.declared.cell.Cell.{Cell}
+use Rattle.cell_rows.specs.Cells.{cells_of}
 use Rattle.chain_model.specs.PluginRule.{PluginRule}
 use Rattle.chain_model.specs.Apply.{apply_after}
 use Rattle.chain_model.specs.Joint.{agreement_of}
@@ -58,7 +59,7 @@ returns-then-is_err-clause-agreed g c = λ history mark allows notes.
 
 pub returns-then-is_err-clause-room : goal.returns-then-is_err-clause-room
 returns-then-is_err-clause-room g c = λ has.
-    absurd (failed-unsteady (g.P.Plugin.preallocated c.args.self.now.heard.plugin) c.note.result (c.args.at + length c.args.cells.now - c.args.written) c.is_err.result
+    absurd (failed-unsteady (g.P.Plugin.preallocated c.args.self.now.heard.plugin) c.note.result (c.args.at + length c.args.packets.now - c.args.written) c.is_err.result
     c.note.ensures.room c.is_err.ensures.negation c.if-is_err.true has)
 
 pub returns-then-is_err-clause-met : goal.returns-then-is_err-clause-met
@@ -84,14 +85,14 @@ pub returns-clause-makes : goal.returns-clause-makes
 returns-clause-makes g c = λ history mark allows.
     let gives = noted g.P.Plugin.stands_for c.note.new.self (g.P.Plugin.rule c.args.self.now.heard.plugin) history c.args.written mark _ _ _ c.is_err.result c.is_err.ensures.negation c.if-is_err.false
     (c.note.ensures.gives history mark allows.holds allows.not_below (omega (arith, allows.within, allows.count))) in
-    subst (λ (r : PluginRule). Makes (apply_after r history c.args.cells.now) (take c.steps.result.count c.steps.new.cells) c.steps.result.end)
+    subst (λ (r : PluginRule). Makes (apply_after r history (cells_of c.args.packets.now c.args.marks.now)) (take c.steps.result.count (cells_of c.steps.new.packets c.steps.new.marks)) c.steps.result.end)
     c.note.ensures.same_rule (c.steps.ensures.makes history c.args.written gives.0 allows.count)
 
 pub returns-clause-far : goal.returns-clause-far
 returns-clause-far g c = λ history mark allows.
     let gives = noted g.P.Plugin.stands_for c.note.new.self (g.P.Plugin.rule c.args.self.now.heard.plugin) history c.args.written mark _ _ _ c.is_err.result c.is_err.ensures.negation c.if-is_err.false
     (c.note.ensures.gives history mark allows.holds allows.not_below (omega (arith, allows.within, allows.count))) in
-    subst (λ (r : PluginRule). apply_after r history (take c.steps.result.count c.args.cells.now) ≡ made_so_far (take c.steps.result.count c.steps.new.cells) c.steps.result.end)
+    subst (λ (r : PluginRule). apply_after r history (take c.steps.result.count (cells_of c.args.packets.now c.args.marks.now)) ≡ made_so_far (take c.steps.result.count (cells_of c.steps.new.packets c.steps.new.marks)) c.steps.result.end)
     c.note.ensures.same_rule (c.steps.ensures.far history c.args.written gives.0 allows.count)
 
 pub returns-clause-met : goal.returns-clause-met
@@ -104,7 +105,7 @@ returns-clause-met g c = λ from history mark allows.
       mark = c.args.written;
       holds = record {
         holds = c.steps.ensures.met history c.args.written gives.0 allows.count;
-        lines = lines_below rule _ history (take c.steps.result.count c.args.cells.now) from mark c.args.written allows.holds.taken allows.not_below within
+        lines = lines_below rule _ history (take c.steps.result.count (cells_of c.args.packets.now c.args.marks.now)) from mark c.args.written allows.holds.taken allows.not_below within
             (c.steps.ensures.same_rule ∙ c.note.ensures.same_rule) _ _ allows.holds.lines gives.1;
         taken = let a = allows.holds.taken in let b = allows.not_below in omega arith;
       };
@@ -116,7 +117,7 @@ pub returns-clause-agreed : goal.returns-clause-agreed
 returns-clause-agreed g c = λ history mark allows notes.
     let gives = noted g.P.Plugin.stands_for c.note.new.self (g.P.Plugin.rule c.args.self.now.heard.plugin) history c.args.written mark _ _ _ c.is_err.result c.is_err.ensures.negation c.if-is_err.false
     (c.note.ensures.gives history mark allows.holds allows.not_below (omega (arith, allows.within, allows.count))) in
-    subst (λ (r : PluginRule). TellsAgreement r (history ++ take c.steps.result.count c.args.cells.now) c.args.at c.steps.result.agreed c.steps.new.noted)
+    subst (λ (r : PluginRule). TellsAgreement r (history ++ take c.steps.result.count (cells_of c.args.packets.now c.args.marks.now)) c.args.at c.steps.result.agreed c.steps.new.noted)
     c.note.ensures.same_rule (c.steps.ensures.agreed history c.args.written gives.0 allows.count
     (notes ∙ ap (λ (r : PluginRule). is_some (agreement_of r history)) (sym c.note.ensures.same_rule)))
 
@@ -130,5 +131,5 @@ returns-clause-room g c = λ has.
       mark = c.args.written;
       holds = gives.0;
       count = may.allows.count;
-      within = subst (λ (s : Option ℕ). IsPreallocatedFor s (c.args.at + length c.args.cells.now - c.args.written)) (sym c.note.ensures.same_preallocated) has;
+      within = subst (λ (s : Option ℕ). IsPreallocatedFor s (c.args.at + length c.args.packets.now - c.args.written)) (sym c.note.ensures.same_preallocated) has;
     })

@@ -1,5 +1,5 @@
 use Rattle.std.proofs.Common.{◌≡◌, ◌+◌, ◌++◌, Some, None, subst, sym, ap, ◌∙◌, length, arith, append-nil}
-use Rattle.ts_land.specs.Pieces.{Land}
+use Rattle.cell_land.specs.Cells.{CellLand as Land}
 use Rattle.window_ring.specs.Hands.{Row, IsHand, IsFront, pieces, piece, row_of}
 use Rattle.window_ring.proofs.HandLemmas.{cut_whole, no_second}
 use Rattle.window_ring.proofs.FrontLemmas.{front_of}

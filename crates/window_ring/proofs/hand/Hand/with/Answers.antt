@@ -1,6 +1,5 @@
 use Rattle.std.proofs.Common.{◌++◌, Some, None, subst, sym, ap, ◌∙◌, arith}
-use Rattle.ts_packet.specs.declared.cell.Cell.{Cell}
-use Rattle.ts_land.specs.Pieces.{Piece}
+use Rattle.cell_land.specs.Cells.{CellPiece}
 use Rattle.window_ring.specs.Hands.{IsHand, pieces, row_of}
 use Rattle.window_ring.proofs.HandLemmas.{fitting, known, after_two, after_one, one_more, both_first, both_next, cells_last, cells_first}
 use Rattle.window_ring.proofs.hand.Hand.with.Goals as goal
@@ -25,7 +24,7 @@ returns-in-Some-second c =
     let all = fitting c.args.self c.args.other i.at j.at i.count j.count i.base j.base i.first i.second j.first j.second c.self.view_is c.other.view_is c.requires.behind c.requires.same c.requires.fits c.self.invariant c.other.invariant in
     let f = known i.at j.at i.count i.base i.first i.second j.first j.second (Some w) (Some u) (Some t) c.in-Some.is c.in-Some-second.is c.in-Some-theirs.is all in
     let none = (after_two i.at j.at i.count i.base w t j.second u f).0 in
-    let both = ap (λ (p : Piece Cell). w.cells ++ p.cells) c.join-both.ensures ∙ cells_last w.cells u.cells t.cells in
+    let both = ap (λ (p : CellPiece). w.cells ++ p.cells) c.join-both.ensures ∙ cells_last w.cells u.cells t.cells in
     let mine = (λ k. pieces (sym c.in-Some.is k) (sym c.in-Some-second.is k)) ∙ ap (λ r. r.cells) c.self.view_is in
     let their = (λ k. pieces (sym c.in-Some-theirs.is k) (sym none k)) ∙ ap (λ r. r.cells) c.other.view_is in
     c.of-in-Some-second.ensures ∙ (λ k. row_of (c.self.view_is k).at (c.self.view_is k).land ((both ∙ (λ l. mine l ++ their l)) k))

@@ -1,0 +1,2 @@
+-- The definitions of `in_place`: what a read in place moves.
+pub mod Reads
