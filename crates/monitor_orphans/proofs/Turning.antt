@@ -11,7 +11,7 @@ use Rattle.plug_psi.specs.Referred.{refers}
 use Rattle.monitor_keys.specs.Keys.{span_on}
 use Rattle.monitor_keys.specs.Looks.{is_look}
 use Rattle.monitor_keys.specs.declared.span.Span.{Span}
-use Rattle.monitor_orphans.specs.OrphanRow.{Follows, LookedBelow, met_in, told_below, told_in}
+use Rattle.monitor_orphans.specs.OrphanRow.{Follows, IsWithin, LookedBelow, met_in, told_below, told_in}
 use Rattle.monitor_orphans.specs.Orphans.{is_on, is_told_on, is_told_with, looked, met, orphan_after, orphan_from, orphan_with, orphans_on, refers_with}
 use Rattle.monitor_orphans.specs.declared.orphan.Orphan.{Orphan}
 use Rattle.monitor_orphans.specs.declared.orphan.Orphan.TheVariants.{Unmet}
@@ -52,7 +52,7 @@ after-live pcr_pid pid history packet labels = from-live pcr_pid pid [] Unmet hi
 -- ---- lists of PIDs
 
 -- two tests that agree on the numbers below a bound choose the same ones
-chosen-same : (f g : ℕ → Bool) (bound : ℕ) → ((n : ℕ) → n < bound → f n ≡ g n) → filter f (numbers_below bound) ≡ filter g (numbers_below bound)
+pub chosen-same : (f g : ℕ → Bool) (bound : ℕ) → ((n : ℕ) → n < bound → f n ≡ g n) → filter f (numbers_below bound) ≡ filter g (numbers_below bound)
 unfolding numbers_below
 chosen-same f g zero same = refl
 chosen-same f g (suc n) same =
@@ -62,12 +62,12 @@ chosen-same f g (suc n) same =
     ∙ sym (filter-append g (numbers_below n) (n ∷ []))))
 
 -- a test that no number passes
-chosen-none : (xs : List ℕ) → filter (λ _. false) xs ≡ []
+pub chosen-none : (xs : List ℕ) → filter (λ _. false) xs ≡ []
 chosen-none [] = refl
 chosen-none (x ∷ xs) = chosen-none xs
 
 -- the numbers below the next bound
-chosen-next : (f : ℕ → Bool) (n : ℕ) → filter f (numbers_below (n + 1)) ≡ filter f (numbers_below n) ++ (if f n then n ∷ [] else [])
+pub chosen-next : (f : ℕ → Bool) (n : ℕ) → filter f (numbers_below (n + 1)) ≡ filter f (numbers_below n) ++ (if f n then n ∷ [] else [])
 unfolding numbers_below
 chosen-next f n =
     ap (λ (m : ℕ). filter f (numbers_below m)) (let next : n + 1 ≡ suc n = omega arith in next)
@@ -100,14 +100,6 @@ told_met span packet fed old pid kept tells on referred is kept_is on_is referre
 -- ---- a PCR that is read
 
 module _ (span : Span) (packet : List ℕ) (fed : List (List ℕ)) (old : List Orphan) where
-  -- before the first PID
-  pub looked_none : LookedBelow span packet fed old old 0
-  looked_none = record { done = λ pid (less : pid < 0). absurd (omega (arith, less)); left = λ pid le. refl }
-
-  pub told_none : [] ≡ told_below span packet fed old 0
-  unfolding numbers_below
-  told_none = refl
-
   module _ (now next : List Orphan) (n : ℕ) (below : LookedBelow span packet fed old now n) where
     -- the PID was not turned before
     met-left : met_in span packet fed now n ≡ met_in span packet fed old n
@@ -155,12 +147,15 @@ quiet-other span on referred kept no_look no_packet =
     ∙ ap (λ (b : Bool). met span.at b referred kept) no_packet
 
 pub follows_none : (pcr_pid : Option ℕ) (kept : Orphans) → ((pid : ℕ) → get_or kept.pids pid Unmet ≡ Unmet) → Follows pcr_pid kept []
-follows_none pcr_pid kept none = record { each = λ pid below. none pid }
+follows_none pcr_pid kept none = record {
+  each = λ pid below. none pid;
+  within = record { below = λ pid less. none pid; above = λ pid le. none pid };
+}
 
 module _ (pcr_pid : Option ℕ) (kept : Orphans) (history : List Cell) (r : Follows pcr_pid kept history) where
   -- a dropped cell
   pub follows_dropped : Follows pcr_pid kept (history ++ Dropped ∷ [])
-  follows_dropped = record { each = λ pid below. r.each pid below ∙ sym (from-dropped pcr_pid pid [] Unmet history) }
+  follows_dropped = record { each = λ pid below. r.each pid below ∙ sym (from-dropped pcr_pid pid [] Unmet history); within = r.within }
 
   module _ (span : Span) (packet : List ℕ) (is : span ≡ span_on pcr_pid history packet) where
     -- of each PID
@@ -179,8 +174,8 @@ module _ (pcr_pid : Option ℕ) (kept : Orphans) (history : List Cell) (r : Foll
 
     -- with a PCR that is read
     pub follows_look : (next : Orphans) (labels : ℕ) → LookedBelow span packet (live_packets history ++ packet ∷ []) kept.pids next.pids PID_COUNT
-        → Follows pcr_pid next (history ++ Live packet labels ∷ [])
-    follows_look next labels looked = record { each = λ pid below. looked.done pid below ∙ met-after pid labels below }
+        → IsWithin next.reach next.pids → Follows pcr_pid next (history ++ Live packet labels ∷ [])
+    follows_look next labels looked within = record { each = λ pid below. looked.done pid below ∙ met-after pid labels below; within = within }
 
     pub told_look : told_below span packet (live_packets history ++ packet ∷ []) kept.pids PID_COUNT ≡ orphans_on pcr_pid history packet
     told_look = chosen-same (told_in span packet (live_packets history ++ packet ∷ []) kept.pids) (is_told_on pcr_pid history packet) PID_COUNT told-on
@@ -203,8 +198,9 @@ module _ (pcr_pid : Option ℕ) (kept : Orphans) (history : List Cell) (r : Foll
 
       pub follows_quiet : (next : Orphans) (labels n : ℕ) → n ≡ pid_of packet → n < PID_COUNT → length kept.pids ≡ PID_COUNT
           → next.pids ≡ set kept.pids n (met_in span packet (live_packets history ++ packet ∷ []) kept.pids n)
-          → Follows pcr_pid next (history ++ Live packet labels ∷ [])
-      follows_quiet next labels n on_pid within whole set_is = record {
+          → IsWithin next.reach next.pids → Follows pcr_pid next (history ++ Live packet labels ∷ [])
+      follows_quiet next labels n on_pid within whole set_is reach_is = record {
+        within = reach_is;
         each = λ pid below. elim (cases_eq pid n) as (λ _. get_or next.pids pid Unmet ≡ orphan_after pcr_pid pid (history ++ Live packet labels ∷ [])) [
           | inl same ↦
               ap (λ (ks : List Orphan). get_or ks pid Unmet) set_is

@@ -10,10 +10,17 @@ use Rattle.monitor_orphans.specs.Orphans.{is_on, is_told_with, orphan_after, orp
 use Rattle.monitor_orphans.specs.declared.orphan.Orphan.{Orphan}
 use Rattle.monitor_orphans.specs.declared.orphan.Orphan.TheVariants.{Unmet}
 use Rattle.monitor_orphans.specs.declared.orphans.Orphans.{Orphans}
+use Rattle.monitor_orphans.specs.declared.reach.Reach.{Reach}
 
--- what is kept of each PID is what was met of it
+-- nothing is kept of the PIDs outside of a reach
+pub record IsWithin (reach : Reach) (pids : List Orphan) : Type 0 where
+  pub below : (pid : ℕ) → pid < reach.from → slice_index_or pids pid Unmet ≡ Unmet
+  pub above : (pid : ℕ) → reach.to ≤ pid → slice_index_or pids pid Unmet ≡ Unmet
+
+-- what is kept of each PID is what was met of it, and the reach has all PIDs of which something is kept
 pub record Follows (pcr_pid : Option ℕ) (kept : Orphans) (history : List Cell) : Type 0 where
   pub each : (pid : ℕ) → pid < PID_COUNT → slice_index_or kept.pids pid Unmet ≡ orphan_after pcr_pid pid history
+  pub within : IsWithin kept.reach kept.pids
 
 -- what is kept of a PID after a packet, where it was this row and the tables in force are those of all packets fed
 abbrev pub met_in : Span → List ℕ → List (List ℕ) → List Orphan → ℕ → Orphan

@@ -6,6 +6,7 @@ mod limits;
 mod orphan;
 mod orphan_laws;
 mod orphans;
+mod reach;
 
 pub use limits::LONGEST_WAIT;
 pub use orphan::Orphan;

@@ -3,6 +3,7 @@ ghost use Rattle.std.specs.Prelude.{◌≡◌};
 ghost use Rattle.monitor_orphans.specs.Orphans as orphans;
 
 use crate::orphan::Orphan;
+use crate::reach::Reach;
 use monitor_keys::Span;
 use plug_psi::Referred;
 use std::alloc::{AllocError, Global};
@@ -12,6 +13,8 @@ use ts_packet::{PID_COUNT, Packet, PidRow};
 #[derive(Drop)]
 pub struct Orphans {
     pids: PidRow<Orphan>,
+    // In a right stream it has no PID, and a PCR costs nothing.
+    reach: Reach,
     alloc: Global,
 }
 
@@ -22,8 +25,10 @@ impl Orphans {
     ghost use Rattle.ts_packet.specs.Cells.{Live, live_packets};
     ghost use Rattle.plug_psi.specs.ReferredStands.{StandsFor};
     ghost use Rattle.monitor_keys.specs.Keys.{span_on};
-    ghost use Rattle.monitor_orphans.specs.OrphanRow.{Follows, LookedBelow, met_in, told_below, told_in};
+    ghost use Rattle.monitor_orphans.specs.OrphanRow.{Follows, IsWithin, LookedBelow, met_in, told_below, told_in};
     ghost use Rattle.monitor_orphans.specs.Orphans.{orphans_on};
+    ghost use Rattle.monitor_orphans.specs.Reaches.{IsIdleOutside, Reaches};
+    ghost use Rattle.monitor_keys.specs.declared.span.Span.{Span};
 
     /// No packet yet on any PID. Allocates 256 KiB.
     pub fn new(alloc: Global) -> Result<Orphans, AllocError>
@@ -31,6 +36,7 @@ impl Orphans {
     {
         Ok(Orphans {
             pids: PidRow::filled(alloc, Orphan::Unmet)?,
+            reach: Reach::none(),
             alloc,
         })
     }
@@ -58,23 +64,39 @@ impl Orphans {
         Ok(Vec::new(self.alloc))
     }
 
-    // Each PID, with a PCR that is read.
+    // Each PID, with a PCR that is read. Those outside of the reach stay as they are.
     fn look(
         &mut self,
         span: &Span,
         packet: &Packet,
         referred: &Referred,
     ) -> Result<Vec<u16>, AllocError>
-        ensures tells { IfOk result (λ told. (fed : List (List ℕ)) → StandsFor referred.now fed
+        ensures tells { IfOk result (λ told. (fed : List (List ℕ)) → StandsFor referred.now fed → IsWithin self.old.reach self.old.pids
             → told.items ≡ told_below span.now packet.now fed self.old.pids PID_COUNT) }
-        ensures stands { OnOk result ((fed : List (List ℕ)) → StandsFor referred.now fed
+        ensures stands { OnOk result ((fed : List (List ℕ)) → StandsFor referred.now fed → IsWithin self.old.reach self.old.pids
             → LookedBelow span.now packet.now fed self.old.pids self.new.pids PID_COUNT) }
+        ensures within { OnOk result ((fed : List (List ℕ)) → StandsFor referred.now fed → IsWithin self.old.reach self.old.pids
+            → IsWithin self.new.reach self.new.pids) }
     {
         let mut told = Vec::new(self.alloc);
-        for pid in 0..PID_COUNT {
+        let reach = self.reach_with(packet, referred);
+        self.reach = Reach::none();
+        for pid in reach.from..reach.to {
             self.look_at(pid, span, packet, referred, &mut told)?;
         }
         Ok(told)
+    }
+
+    // The PIDs of which something may be kept, before or after a packet.
+    fn reach_with(&self, packet: &Packet, referred: &Referred) -> Reach
+        ensures { (span : Span) (fed : List (List ℕ)) → StandsFor referred.now fed → IsWithin self.now.reach self.now.pids
+            → IsIdleOutside span packet.now fed self.now.pids result }
+    {
+        let pid = packet.pid();
+        if referred.has(pid) {
+            return self.reach;
+        }
+        self.reach.over(pid)
     }
 
     // One PID, with such a PCR.
@@ -91,6 +113,8 @@ impl Orphans {
             → self.new.pids ≡ slice_set self.old.pids pid (met_in span.now packet.now fed self.old.pids pid) }
         ensures told { OnOk result ((fed : List (List ℕ)) → StandsFor referred.now fed
             → told.new.items ≡ told.old.items ++ (if told_in span.now packet.now fed self.old.pids pid then pid ∷ [] else [])) }
+        ensures reach { (fed : List (List ℕ)) → StandsFor referred.now fed
+            → Reaches self.old.reach pid (met_in span.now packet.now fed self.old.pids pid) self.new.reach }
         ensures whole { length self.old.pids ≡ PID_COUNT }
     {
         if self.turn(pid, span, packet, referred) {
@@ -106,12 +130,16 @@ impl Orphans {
             → self.new.pids ≡ slice_set self.old.pids pid (met_in span.now packet.now fed self.old.pids pid) }
         ensures told { (fed : List (List ℕ)) → StandsFor referred.now fed
             → result ≡ told_in span.now packet.now fed self.old.pids pid }
+        ensures reach { (fed : List (List ℕ)) → StandsFor referred.now fed
+            → Reaches self.old.reach pid (met_in span.now packet.now fed self.old.pids pid) self.new.reach }
         ensures whole { length self.old.pids ≡ PID_COUNT }
     {
         let kept = self.pids.get(pid);
         let is_on = is_on(packet, pid);
         let is_referred = referred.has(pid);
-        self.pids.set(pid, kept.with(span, is_on, is_referred));
+        let turned = kept.with(span, is_on, is_referred);
+        self.pids.set(pid, turned);
+        self.reach = self.reach.with(pid, turned);
         kept.is_told_with(span, is_on, is_referred)
     }
 }

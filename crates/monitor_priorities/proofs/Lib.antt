@@ -1,4 +1,5 @@
 pub mod Giving
 pub mod Chaining
 pub mod Dropping
+pub mod Passing
 pub mod Rows

@@ -1,6 +1,7 @@
 //! The row of EITs.
 ghost use Rattle.std.specs.Prelude.{◌≡◌, ◌++◌, OnOk};
 
+use crate::reading::read_on;
 use crate::telling::tell_tables;
 use monitor_keys::Span;
 use monitor_lines::{Indicator, MonitorError};
@@ -52,7 +53,7 @@ impl EventRows {
             → span.now ≡ span_on pcr_pid history packet.now
             → errors.new.items ≡ errors.old.items ++ eit_errors pcr_pid history packet.now) }
     {
-        let sections = self.reader.read(packet)?;
+        let sections = read_on(self.alloc, &mut self.reader, EIT_PID, packet)?;
         let others = strangers(self.alloc, EIT_PID, &sections)?;
         self.events.meet(span, packet, &sections, errors)?;
         tell_tables(errors, span.at, Indicator::Eit, &others)?;

@@ -8,6 +8,7 @@ mod crc_row;
 mod event_rows;
 mod first_rows;
 mod priority_laws;
+mod reading;
 mod second_rows;
 mod section_row;
 mod service_tables;

@@ -1,6 +1,7 @@
 //! The row of a PID on which some tables may come, of which none has to.
 ghost use Rattle.std.specs.Prelude.{◌≡◌, ◌++◌, OnOk};
 
+use crate::reading::read_on;
 use crate::telling::tell_tables;
 use monitor_lines::{Indicator, MonitorError};
 use monitor_tables::{SectionReader, strangers};
@@ -52,7 +53,7 @@ impl SectionRow {
         ensures tells { OnOk result ((pid : ℕ) (indicator : _) (history : List Cell) → IsSectionRow self.old pid indicator history
             → length history ≡ at → errors.new.items ≡ errors.old.items ++ stranger_errors indicator pid history packet.now) }
     {
-        let sections = self.reader.read(packet)?;
+        let sections = read_on(self.alloc, &mut self.reader, self.pid, packet)?;
         let others = strangers(self.alloc, self.pid, &sections)?;
         tell_tables(errors, at, self.indicator, &others)?;
         Ok(())

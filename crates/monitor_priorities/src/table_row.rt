@@ -1,12 +1,15 @@
 //! The row of a table that comes on a PID of its own.
-ghost use Rattle.std.specs.Prelude.{◌≡◌, ◌++◌, OnOk};
+ghost use Rattle.std.specs.Prelude.{◌≡◌, ◌++◌, ◌==◌, ◌&&◌, not, OnOk};
+ghost use Rattle.ts_packet.specs.Header.{pid_of};
+ghost use Rattle.monitor_keys.specs.Looks.{is_look};
 
 use crate::table_kind::TableKind;
 use crate::telling::{tell_gap, tell_tables};
-use monitor_keys::{Key, KeyLimit, Span};
+use monitor_keys::{Key, KeyLimit, Span, a_packet_without_news_leaves_the_key};
 use monitor_lines::MonitorError;
 use monitor_tables::{SectionReader, has_table, strangers};
 use std::alloc::{AllocError, Global};
+use ts_demux::other_packets_change_nothing;
 use ts_packet::{PID_COUNT, Packet};
 
 /// What is kept of a table that has to come again and again on a PID of its own, on which no other may come: PAT, CAT, NIT, SDT
@@ -63,6 +66,33 @@ impl TableRow {
             → span.now ≡ span_on rule.pcr_pid history packet.now → is_due ≡ rule.is_due history packet.now
             → errors.new.items ≡ errors.old.items ++ table_errors self.old.kind rule history packet.now) }
     {
+        if is_quiet(span, packet, self.kind.pid) {
+            // Laws, which run nothing.
+            other_packets_change_nothing();
+            a_packet_without_news_leaves_the_key();
+            return Ok(());
+        }
+        self.take(span, packet, is_due, errors)?;
+        Ok(())
+    }
+
+    // The same for any packet; nearly all are on other PIDs and have no PCR that is read, and need not come here.
+    #[inline(never)]
+    fn take(
+        &mut self,
+        span: &Span,
+        packet: &Packet,
+        is_due: bool,
+        errors: &mut Vec<MonitorError>,
+    ) -> Result<(), AllocError>
+        ensures kind { self.new.kind ≡ self.old.kind }
+        ensures stands { OnOk result ((rule : KeyRule) (history : List Cell) (labels : ℕ) → IsTableRow self.old rule history
+            → span.now ≡ span_on rule.pcr_pid history packet.now → is_due ≡ rule.is_due history packet.now
+            → IsTableRow self.new rule (history ++ Live packet.now labels ∷ [])) }
+        ensures tells { OnOk result ((rule : KeyRule) (history : List Cell) → IsTableRow self.old rule history
+            → span.now ≡ span_on rule.pcr_pid history packet.now → is_due ≡ rule.is_due history packet.now
+            → errors.new.items ≡ errors.old.items ++ table_errors self.old.kind rule history packet.now) }
+    {
         let sections = self.reader.read(packet)?;
         let occurs = has_table(&sections, self.kind.table_id);
         let others = strangers(self.alloc, self.kind.pid, &sections)?;
@@ -71,4 +101,12 @@ impl TableRow {
         tell_tables(errors, span.at, self.kind.indicator, &others)?;
         Ok(())
     }
+}
+
+// Whether a packet is on another PID, and has no PCR that is read.
+#[inline]
+fn is_quiet(span: &Span, packet: &Packet, pid: u16) -> bool
+    ensures { result ≡ (not (pid_of packet.now == pid) && not (is_look span.now)) }
+{
+    packet.pid() != pid && !span.is_look()
 }

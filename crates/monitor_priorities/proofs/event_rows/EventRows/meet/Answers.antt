@@ -10,16 +10,16 @@ use Rattle.monitor_priorities.proofs.event_rows.EventRows.meet.Goals as goal
 
 pub returns-clause-stands : goal.returns-clause-stands
 returns-clause-stands c = λ pcr_pid history labels w span_is.
-    let sections = c.in_ok-sections.ensures.gives 18 (live_packets history) w.has_read in
+    let sections = c.in_ok-sections.ensures.gives (live_packets history) w.has_read in
     record {
       events = c.in_ok-meet.ensures.stands pcr_pid history labels w.events span_is (c.deref-2.ensures.value ∙ sections);
-      has_read = subst (HasRead c.read.new.self 18) (sym (live-more history c.args.packet.now labels)) (c.in_ok-sections.ensures.stands 18 (live_packets history) w.has_read);
+      has_read = subst (HasRead c.read_on.new.reader 18) (sym (live-more history c.args.packet.now labels)) (c.in_ok-sections.ensures.stands (live_packets history) w.has_read);
     }
 
 pub returns-clause-tells : goal.returns-clause-tells
 returns-clause-tells c = λ pcr_pid history w span_is.
     let here = place-of c.args.span.now pcr_pid history c.args.packet.now span_is in
-    let sections = c.in_ok-sections.ensures.gives 18 (live_packets history) w.has_read in
+    let sections = c.in_ok-sections.ensures.gives (live_packets history) w.has_read in
     told-then c.args.errors.now.items _ _ _ _
     (c.in_ok-meet.ensures.tells pcr_pid history w.events span_is (c.deref-2.ensures.value ∙ sections))
     (told-at (table_error Eit) _ _ c.args.span.now.at _ _ (strangers_on 18 (live_packets history) c.args.packet.now) here
