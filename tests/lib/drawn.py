@@ -42,7 +42,7 @@ PLUGINS = {
     "eit": ["eit --service {service} --name other", "eit --service {service} --shift=-{many} --running-status 4", "eit --service {service} --remove --only-label 3"],
     "time": ["time --shift=-{many}", "time --shift=3600", "time --shift=0 --only-label 3"],
     "zap": ["zap {service}", "zap {service} --stuffing", "zap {service} 1 769", "zap {service} --keep nit,bat,eit,time"],
-    "svremove": ["svremove {service}", "svremove {service} --stuffing", "svremove {service} 1 769"],
+    "svremove": ["svremove {service}", "svremove {service} --stuffing", "svremove {service} 1 769", "svremove --everywhere {service}"],
     "compact": ["compact --window {few}", "compact --window {many} --stuffing", "compact --window {few} --only-label 3"],
     "rmorphan": ["rmorphan --window {few}", "rmorphan --window {many} --stuffing", "rmorphan --window {few} --only-label 3"],
     "restuff": ["restuff --from 1500000 --to 1400000", "restuff --from 13536000 --to 13000000 --window {many}",

@@ -115,7 +115,7 @@ def head_of(run):
 
 
 def table_of(run):
-    """The fields, descriptors and entries of a run of sections; of what is no PAT, CAT, PMT, NIT or SDT its bytes."""
+    """The fields, descriptors and entries of a run of sections; of what is no PAT, CAT, PMT, NIT, BAT or SDT its bytes."""
     table_id = run[0][0]
     bodies = [section[8:-4] for section in run]
     fields, descriptors, entries = (), (), []
@@ -135,7 +135,7 @@ def table_of(run):
             size = number(body[3:], 12)
             entries.append(((body[0], number(body[1:], 13)), descriptors_in(body[5:5 + size])))
             body = body[5 + size:]
-    elif table_id in (0x40, 0x41):
+    elif table_id in (0x40, 0x41, 0x4A):
         for body in bodies:
             size = number(body, 12)
             descriptors += descriptors_in(body[2:2 + size])

@@ -1,5 +1,5 @@
 -- An editor's step: one packet more.
-use Rattle.std.proofs.Common.{◌≡◌, ℕ, ◌+◌, ◌%◌, ◌≤◌, ◌||◌, Bool, false, List, [], ◌∷◌, ◌++◌, length, take, suc, Option, Some, None, refl, sym, ◌∙◌, ap, arith, append_assoc, length-append, subst, map}
+use Rattle.std.proofs.Common.{◌≡◌, ℕ, ◌+◌, ◌%◌, ◌<◌, ◌≤◌, ◌||◌, Bool, false, List, [], ◌∷◌, ◌++◌, length, take, suc, Option, Some, None, refl, sym, ◌∙◌, ap, arith, append_assoc, length-append, subst, map}
 use Rattle.std.proofs.lemmas.List.{take-append-le}
 use Rattle.indexmap.specs.IndexMap.{values}
 use Rattle.ts_packet.specs.Header.{with_counter}
@@ -10,7 +10,7 @@ use Rattle.ts_demux.specs.TablesOn.{Completes}
 use Rattle.plug_psi.specs.Contents.{contents_of}
 use Rattle.plug_psi.specs.ContentsState.{HasContents}
 use Rattle.plug_psi.specs.Edits.{Change, edited_sections}
-use Rattle.plug_psi.specs.EditedCycles.{edited_packets, cycles_of, replaced}
+use Rattle.plug_psi.specs.EditedCycles.{EditsInUse, edited_packets, cycles_by, replaced_by}
 use Rattle.plug_psi.specs.EditorState.{StandsAt, Edits, Renewed, NextInPlace}
 use Rattle.plug_psi.specs.declared.contents.Contents.{Contents}
 use Rattle.plug_psi.proofs.Choice.{neither}
@@ -45,17 +45,17 @@ take_up_to : (xs more : List (List ℕ)) (x : List ℕ) → take (suc (length xs
 take_up_to [] more x = refl
 take_up_to (y ∷ xs) more x = ap (λ t. y ∷ t) (take_up_to xs more x)
 
--- a cycle that starts with a packet has the contents known at it, whatever comes after
+-- a cycle that starts with a packet has the contents known at it, under the edit in use there, whatever comes after
 cycle-here :
-    (pid : ℕ) (edit : List (List ℕ) → Change) (taken more : List (List ℕ)) (packet : List ℕ) →
-    cycles_of pid edit (taken ++ packet ∷ more) (length taken) ≡ edited_packets pid edit (taken ++ packet ∷ [])
-cycle-here pid edit taken more packet =
-    ap (edited_packets pid edit)
+    (pid : ℕ) (edits : EditsInUse) (taken more : List (List ℕ)) (packet : List ℕ) →
+    cycles_by pid edits (taken ++ packet ∷ more) (length taken) ≡ edited_packets pid (edits (length taken)) (taken ++ packet ∷ [])
+cycle-here pid edits taken more packet =
+    ap (edited_packets pid (edits (length taken)))
     (ap (λ n. take n (taken ++ packet ∷ more)) (let e : length taken + 1 ≡ suc (length taken) = omega arith in e) ∙ take_up_to taken more packet)
 
-replaced-is : (pid : ℕ) (edit : List (List ℕ) → Change) (taken : List (List ℕ)) (packet : List ℕ) → replaced_at (cycles_of pid edit (taken ++ packet ∷ [])) (length taken) ≡ replaced pid edit taken packet
-unfolding replaced
-replaced-is pid edit taken packet = refl
+replaced-is : (pid : ℕ) (edits : EditsInUse) (taken : List (List ℕ)) (packet : List ℕ) → replaced_at (cycles_by pid edits (taken ++ packet ∷ [])) (length taken) ≡ replaced_by pid edits taken packet
+unfolding replaced_by
+replaced-is pid edits taken packet = refl
 
 length-one_more : (taken : List (List ℕ)) (packet : List ℕ) → suc (length taken) ≡ length (taken ++ packet ∷ [])
 length-one_more [] packet = refl
@@ -75,9 +75,9 @@ mod_mod : (n : ℕ) → n % 16 % 16 ≡ n % 16
 mod_mod n = omega arith
 
 module _
-    (edit : List (List ℕ) → Change) (contents now : Contents) (old mid new : CycleState) (counter behind : ℕ) (changed came still : Bool) (packet put : List ℕ) (tables : List (List (List ℕ)))
+    (edits : EditsInUse) (edit : List (List ℕ) → Change) (contents now : Contents) (old mid new : CycleState) (counter behind : ℕ) (changed came still : Bool) (packet put : List ℕ) (tables : List (List (List ℕ)))
     (a : Advance edit contents now old mid new counter behind changed came still packet put tables)
-    (pid : ℕ) (taken : List (List ℕ)) (e : Edits pid edit contents old counter changed taken) (completes : Completes pid taken packet tables) where
+    (pid : ℕ) (taken : List (List ℕ)) (e : Edits pid edits edit contents old counter changed taken) (in_use : edits (length taken) ≡ edit) (completes : Completes pid taken packet tables) where
   has : HasContents now pid (taken ++ packet ∷ [])
   has = a.took pid taken e.contents_taken completes
 
@@ -99,40 +99,44 @@ module _
   renewed-is : still ≡ false → mid.contents ≡ edited_packets pid edit (taken ++ packet ∷ [])
   renewed-is none = a.renewed.known none already ∙ wanted
 
-  -- however the packets go on
-  goes : (more : List (List ℕ)) →
-      (put ≡ replaced_at (cycles_of pid edit (taken ++ packet ∷ more)) (length taken)) × StandsAt (cycles_of pid edit (taken ++ packet ∷ more)) (suc (length taken)) new.left behind
-  goes more =
-      let cycle = cycles_of pid edit (taken ++ packet ∷ more) in
-      let stands = e.to_come (packet ∷ more) in
+  -- however edits and packets go on
+  goes : (later : EditsInUse) (more : List (List ℕ)) → ((s : ℕ) → s < suc (length taken) → later s ≡ edits s) →
+      (put ≡ replaced_at (cycles_by pid later (taken ++ packet ∷ more)) (length taken)) × StandsAt (cycles_by pid later (taken ++ packet ∷ more)) (suc (length taken)) new.left behind
+  goes later more alike =
+      let cycle = cycles_by pid later (taken ++ packet ∷ more) in
+      let stands = e.to_come later (packet ∷ more) (λ s h. alike s (omega (arith, h))) in
+      let here : later (length taken) ≡ edit = alike (length taken) (omega arith) ∙ in_use in
       stands-next cycle (length taken) mid new (counter % 16) put behind a.step
       (record { left_over = a.renewed.same_left ∙ stands.left_over; counts = ap (λ n. n % 16) stands.counts ∙ mod_mod (written_before cycle (length taken)) })
-      (λ none. renewed-is (a.renewed.begins (sym a.renewed.same_left ∙ none)) ∙ sym (cycle-here pid edit taken more packet))
+      (λ none.
+      renewed-is (a.renewed.begins (sym a.renewed.same_left ∙ none))
+      ∙ sym (cycle-here pid later taken more packet ∙ ap (λ w. edited_packets pid w (taken ++ packet ∷ [])) here))
 
   -- what is put in the packet's place
-  pub advance-replaces : put ≡ replaced pid edit taken packet
-  advance-replaces = (goes []).0 ∙ replaced-is pid edit taken packet
+  pub advance-replaces : put ≡ replaced_by pid edits taken packet
+  advance-replaces = (goes edits [] (λ s h. refl)).0 ∙ replaced-is pid edits taken packet
 
   -- and the parts stand for one packet more
-  pub advance-stands : Edits pid edit now new behind still (taken ++ packet ∷ [])
+  pub advance-stands : Edits pid edits edit now new behind still (taken ++ packet ∷ [])
   advance-stands = record {
     contents_taken = has;
     same_pid = a.step.same_pid ∙ a.renewed.same_pid ∙ e.same_pid;
-    to_come = λ more.
-        stands-elsewhere (cycles_of pid edit (taken ++ packet ∷ more)) (cycles_of pid edit ((taken ++ packet ∷ []) ++ more)) (suc (length taken)) (length (taken ++ packet ∷ [])) new.left behind
-        (ap (cycles_of pid edit) (sym (append_assoc taken (packet ∷ []) more))) (length-one_more taken packet) (goes more).1;
+    to_come = λ later more alike.
+        stands-elsewhere (cycles_by pid later (taken ++ packet ∷ more)) (cycles_by pid later ((taken ++ packet ∷ []) ++ more)) (suc (length taken)) (length (taken ++ packet ∷ [])) new.left behind
+        (ap (cycles_by pid later) (sym (append_assoc taken (packet ∷ []) more))) (length-one_more taken packet)
+        (goes later more (λ s h. alike s (omega (arith, h, length-one_more taken packet)))).1;
     unchanged = λ none. a.step.same_contents ∙ renewed-is none;
   }
 
--- What is put in a packet's place is the same by the cycles of all packets, those after it too.
+-- What is put in a packet's place is the same by the cycles of all packets, those after it too, whatever their edits.
 pub replaced-whole :
-    (pid : ℕ) (edit : List (List ℕ) → Change) (taken more : List (List ℕ)) (packet : List ℕ) →
-    replaced_at (cycles_of pid edit (taken ++ packet ∷ more)) (length taken) ≡ replaced pid edit taken packet
-unfolding replaced
-replaced-whole pid edit taken more packet =
-    let c = cycles_of pid edit (taken ++ packet ∷ more) in
-    let d = cycles_of pid edit (taken ++ packet ∷ []) in
-    let a = agree c d (length taken) (λ s h. ap (edited_packets pid edit) (take_same s taken packet more h)) in
+    (pid : ℕ) (edits later : EditsInUse) (taken more : List (List ℕ)) (packet : List ℕ) → ((s : ℕ) → s ≤ length taken → later s ≡ edits s) →
+    replaced_at (cycles_by pid later (taken ++ packet ∷ more)) (length taken) ≡ replaced_by pid edits taken packet
+unfolding replaced_by
+replaced-whole pid edits later taken more packet alike =
+    let c = cycles_by pid later (taken ++ packet ∷ more) in
+    let d = cycles_by pid edits (taken ++ packet ∷ []) in
+    let a = agree c d (length taken) (λ s h. ap (λ w. edited_packets pid w (take (s + 1) (taken ++ packet ∷ more))) (alike s h) ∙ ap (edited_packets pid (edits s)) (take_same s taken packet more h)) in
     ap (λ k. in_place k (packet_at c (length taken))) a.written ∙ ap (in_place (written_before d (length taken))) a.packets
   where
     take_same : (s : ℕ) (xs : List (List ℕ)) (x : List ℕ) (ys : List (List ℕ)) → s ≤ length xs → take (s + 1) (xs ++ x ∷ ys) ≡ take (s + 1) (xs ++ x ∷ [])

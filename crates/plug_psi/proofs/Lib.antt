@@ -7,6 +7,7 @@ pub mod EntryLemmas
 pub mod FlagLemmas
 pub mod ForceLemmas
 pub mod FoundLemmas
+pub mod InUseLemmas
 pub mod KeptView
 pub mod LastTableLemmas
 pub mod NamedLemmas
@@ -14,5 +15,6 @@ pub mod OrdinalLemmas
 pub mod PatLemmas
 pub mod PidLemmas
 pub mod RowTables
+pub mod VariedLemmas
 pub mod WrittenLemmas
 mod Rows

@@ -15,7 +15,9 @@ use Rattle.ts_table_rows.specs.TableValues.{TableHolding}
 use Rattle.ts_demux.specs.TakenWhere.{taken_after, taken_where}
 use Rattle.plug_psi.specs.CatInForce.{current_cat}
 use Rattle.plug_psi.specs.Contents.{entries_of}
+use Rattle.plug_psi.specs.Edits.{away, edited_sections, same}
 use Rattle.plug_psi.specs.InForce.{current_pat, current_pmt, services_in}
+use Rattle.plug_psi.specs.InUse.{always, edits_on, told_after, told_on}
 use Rattle.plug_psi.specs.LastFound.{last_found}
 use Rattle.plug_psi.specs.Referred.{is_fixed, named_pids}
 use Rattle.plug_psi.specs.ServicePids.{pids_in, pids_of}
@@ -126,3 +128,31 @@ pmt_of_1 = (0x02 ∷ 0xB0 ∷ 0x0D ∷ 0x00 ∷ 0x01 ∷ 0xC1 ∷ 0x00 ∷ 0x00 
 pmt-in-force : map (λ service. pids_of (current_pmt service pmt_of_1)) (1 ∷ 2 ∷ []) ≡ (256 ∷ []) ∷ [] ∷ []
 unfolding read_run read_sections read_section read_body read_heading read_fields read_loop read_last_loop table_reading.read_after descriptors_from bits number_of read_number read_bytes read_rest field bit_of read_field table_reading.read_counted_loop table_reading.read_counted table_reading.read_items
 pmt-in-force = refl
+
+-- packets of PIDs 256 and 257
+abbrev on_256 : List ℕ
+on_256 = 0x47 ∷ 0x41 ∷ 0x00 ∷ 0x10 ∷ []
+
+abbrev on_257 : List ℕ
+on_257 = 0x47 ∷ 0x41 ∷ 0x01 ∷ 0x10 ∷ []
+
+-- what is told at the packets on PID 256 is how many were met, itself included, of whatever PID
+told-row : told_on {K = ℕ} always 256 length (on_257 ∷ on_256 ∷ on_257 ∷ on_256 ∷ []) ≡ 2 ∷ 4 ∷ []
+unfolding told_after field bit_of
+told-row = refl
+
+-- nothing is told at a packet at whose position the PID is not followed: here from the third packet on it is
+told-followed-row : told_on {K = ℕ} (λ pid packets. nat_lt 2 (length packets)) 256 length (on_256 ∷ on_257 ∷ on_256 ∷ on_256 ∷ []) ≡ 3 ∷ 4 ∷ []
+unfolding told_after field bit_of
+told-followed-row = refl
+
+-- an edit that removes tables from the third packet on, of whatever PID, is in use at the second one on PID 256; behind the
+-- last one nothing is edited
+in-use-row : map (λ s. edits_on always 256 (λ met run. if nat_lt 2 (length met) then away else same) (on_256 ∷ on_257 ∷ on_256 ∷ []) s cat_run) (0 ∷ 1 ∷ 2 ∷ []) ≡ same ∷ away ∷ same ∷ []
+unfolding told_after field bit_of
+in-use-row = refl
+
+-- so a PAT is carried by the cycle that starts at the first of them, and nothing by one that starts at the second
+carried-row : map (λ s. edited_sections (edits_on always 256 (λ met run. if nat_lt 2 (length met) then away else same) (on_256 ∷ on_257 ∷ on_256 ∷ []) s) (pat_run ∷ [])) (0 ∷ 1 ∷ []) ≡ pat_run ∷ [] ∷ []
+unfolding told_after field bit_of
+carried-row = refl

@@ -1,11 +1,11 @@
 -- When an editor's parts stand for the packets that it processed, and what its steps do to its cycle.
 -- This project's own rule.
-use Rattle.std.specs.Prelude.{◌≡◌, ℕ, ◌+◌, ◌%◌, Bool, false, List, [], ◌++◌, length, suc}
+use Rattle.std.specs.Prelude.{◌≡◌, ℕ, ◌<◌, ◌+◌, ◌%◌, Bool, false, List, [], ◌++◌, length, suc}
 use Rattle.std.specs.Option.{option_to_list}
 use Rattle.ts_packetize.specs.Cycle.{CycleState}
 use Rattle.ts_packetize.specs.Ordinals.{Cycles, packet_at, written_before, in_place, left_before}
 use Rattle.plug_psi.specs.Edits.{Change}
-use Rattle.plug_psi.specs.EditedCycles.{cycles_of, edited_packets}
+use Rattle.plug_psi.specs.EditedCycles.{EditsInUse, cycles_by, edited_packets}
 use Rattle.plug_psi.specs.ContentsState.{HasContents}
 use Rattle.plug_psi.specs.declared.contents.Contents.{Contents}
 
@@ -14,12 +14,14 @@ pub record StandsAt (cycle : Cycles) (n : ℕ) (left : List (List ℕ)) (counter
   pub left_over : left ≡ left_before cycle n
   pub counts : counter ≡ written_before cycle n % 16
 
--- An editor's parts stand for the packets that it processed: whatever packets follow, its cycle and its counter are those
--- before the next of them. Unless the contents changed since, the next cycle has their packets already.
-pub record Edits (pid : ℕ) (edit : List (List ℕ) → Change) (contents : Contents) (cycle : CycleState) (counter : ℕ) (changed : Bool) (taken : List (List ℕ)) : Type 0 where
+-- An editor's parts stand for the packets that it processed, under the edits that were in use at them: whatever edits and
+-- packets follow, its cycle and its counter are those before the next packet. Unless contents or edit changed since, the next
+-- cycle already has the packets of the contents under the edit that is in use now.
+pub record Edits (pid : ℕ) (edits : EditsInUse) (edit : List (List ℕ) → Change) (contents : Contents) (cycle : CycleState) (counter : ℕ) (changed : Bool) (taken : List (List ℕ)) : Type 0 where
   pub contents_taken : HasContents contents pid taken
   pub same_pid : cycle.pid ≡ pid
-  pub to_come : (more : List (List ℕ)) → StandsAt (cycles_of pid edit (taken ++ more)) (length taken) cycle.left counter
+  pub to_come : (later : EditsInUse) (more : List (List ℕ)) → ((s : ℕ) → s < length taken → later s ≡ edits s) →
+      StandsAt (cycles_by pid later (taken ++ more)) (length taken) cycle.left counter
   pub unchanged : changed ≡ false → cycle.contents ≡ edited_packets pid edit taken
 
 -- What a renewal does to a cycle, whose next contents were the expected packets already if nothing had changed. The rest of

@@ -15,6 +15,7 @@ pub mod Entries
 pub mod ForceStands
 pub mod ForceState
 pub mod InForce
+pub mod InUse
 pub mod KeptTables
 pub mod LastFound
 pub mod LastTables
@@ -28,4 +29,5 @@ pub mod ReferredState
 pub mod SameForce
 pub mod ServicePids
 pub mod TableChange
+pub mod VariedStands
 pub mod WrittenDescriptor

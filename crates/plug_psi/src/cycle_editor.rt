@@ -1,10 +1,10 @@
 //! The cycle editor for tables that are read elsewhere.
 
-ghost use Rattle.std.specs.Prelude.{◌≡◌, ℕ, ◌<◌, ◌||◌, ◌++◌, ◌∷◌, [], List, IfOk, OnOk};
+ghost use Rattle.std.specs.Prelude.{◌≡◌, ℕ, ◌<◌, ◌||◌, ◌++◌, ◌∷◌, [], List, length, IfOk, OnOk};
 ghost use Rattle.indexmap.specs.IndexMap.{values};
 ghost use Rattle.ts_packetize.specs.Packets.{packets_of};
 ghost use Rattle.plug_psi.specs.AlteredTables;
-ghost use Rattle.plug_psi.specs.EditedCycles.{replaced};
+ghost use Rattle.plug_psi.specs.EditedCycles.{EditsInUse, replaced_by};
 ghost use Rattle.plug_psi.specs.Edits.{edited_sections};
 ghost use Rattle.plug_psi.specs.EditorState.{NextInPlace, Renewed};
 
@@ -21,7 +21,7 @@ use ts_section::TableRun;
 /// Returns a packet for the place of each packet that is taken on a PID, from cycles of the PID's edited contents. It does
 /// not read the tables itself: an `Editor` does, or what follows the PID already.
 ///
-/// The contents are edited and packed when a cycle begins, and only if they changed since the last one began.
+/// The contents are edited and packed when a cycle begins, and only if they or the edit changed since the last one began.
 /// It keeps the last tables and the packets of at most two cycles.
 #[derive(Drop)]
 pub struct CycleEditor<E: TableEdit + Drop> {
@@ -29,13 +29,13 @@ pub struct CycleEditor<E: TableEdit + Drop> {
     edit: E,
     cycle: Cycle,
     counter: u8,
-    /// Whether a table came since the cycle was last renewed.
+    /// Whether a table came, or the edit was set, since the cycle was last renewed.
     changed: bool,
 }
 
 impl<E: TableEdit + Drop> CycleEditor<E> {
     ghost use Rattle.ts_demux.specs.TablesOn.{Completes};
-    ghost use Rattle.plug_psi.specs.CycleStands.{InCycles, edit_of};
+    ghost use Rattle.plug_psi.specs.CycleStands.{InCycles, InCyclesBy, edit_of};
 
     /// A new editor of a PID below 8191, which has processed no packet.
     pub fn new(alloc: Global, pid: u16, edit: E) -> Result<CycleEditor<E>, AllocError>
@@ -53,21 +53,42 @@ impl<E: TableEdit + Drop> CycleEditor<E> {
         })
     }
 
+    /// The edit that is in use.
+    pub fn edit(&self) -> &E
+        ensures { result.now ≡ edit_of self.now }
+    {
+        &self.edit
+    }
+
+    /// Sets the edit that is in use from the next packet on. The cycle that runs stays as it is, and the next one has the
+    /// contents under the new edit. An edit that makes the same of tables need not be set: with each one that is, the contents
+    /// are edited and packed anew.
+    pub fn set_edit(&mut self, edit: E)
+        ensures stands { (edits : EditsInUse) (pid : ℕ) (taken : List (List ℕ))
+            → InCyclesBy edits (E.change (edit_of self.old)) self.old pid taken → InCyclesBy edits (E.change edit) self.new pid taken }
+        ensures edit { edit_of self.new ≡ edit }
+    {
+        self.edit = edit;
+        self.changed = true;
+    }
+
     /// Processes the next packet, of which only the tables that it completes matter, and returns the packet for its place:
     /// the next one of the cycle that runs, with its counter, or a null packet if a cycle would begin and there is nothing to
-    /// carry. The caller passes the packets that are taken and no others. After `AllocError` it is not to be used any more.
+    /// carry. The caller passes the packets that are taken and no others. The edit in use at the packet is that of the editor,
+    /// whatever the edits at those before were. After `AllocError` it is not to be used any more.
     pub fn advance(
         &mut self,
         alloc: Global,
         tables: Vec<TableRun>,
         packet: &Packet,
     ) -> Result<Packet, AllocError>
-        ensures replaced { IfOk result (λ new. (pid : ℕ) (taken : List (List ℕ))
-            → InCycles (E.change (edit_of self.old)) self.old pid taken
-            → Completes pid taken packet.now tables.items → new ≡ replaced pid (E.change (edit_of self.old)) taken packet.now) }
-        ensures stands { OnOk result ((pid : ℕ) (taken : List (List ℕ)) → InCycles (E.change (edit_of self.old)) self.old pid taken
+        ensures replaced { IfOk result (λ new. (pid : ℕ) (edits : EditsInUse) (taken : List (List ℕ))
+            → InCyclesBy edits (E.change (edit_of self.old)) self.old pid taken → edits (length taken) ≡ E.change (edit_of self.old)
+            → Completes pid taken packet.now tables.items → new ≡ replaced_by pid edits taken packet.now) }
+        ensures stands { OnOk result ((pid : ℕ) (edits : EditsInUse) (taken : List (List ℕ))
+            → InCyclesBy edits (E.change (edit_of self.old)) self.old pid taken → edits (length taken) ≡ E.change (edit_of self.old)
             → Completes pid taken packet.now tables.items
-            → InCycles (E.change (edit_of self.old)) self.new pid (taken ++ packet.now ∷ [])) }
+            → InCyclesBy edits (E.change (edit_of self.old)) self.new pid (taken ++ packet.now ∷ [])) }
         ensures same_edit { edit_of self.new ≡ edit_of self.old }
     {
         // Only the tables that the packet completes matter.
@@ -120,7 +141,7 @@ pub(crate) fn one_holds(a: bool, b: bool) -> bool
     a || b
 }
 
-/// If the tables changed since the last cycle began, and no cycle runs, the next cycle is made of the edited tables.
+/// If the tables or the edit changed since the last cycle began, and no cycle runs, the next cycle is made of the edited tables.
 /// Returns whether the tables have changes that are missing in the cycle that begins or runs now.
 fn renew_where_over<E: TableEdit>(
     alloc: Global,

@@ -1,20 +1,20 @@
 //! Laws of contents and cycles, each a fact and no code.
 
-ghost use Rattle.std.specs.Prelude.{◌≡◌, ℕ, ◌++◌, ◌∷◌, List, length, Option};
+ghost use Rattle.std.specs.Prelude.{◌≡◌, ◌≤◌, ℕ, ◌++◌, ◌∷◌, List, length, Option};
 ghost use Rattle.std.specs.List.{filter_map};
 ghost use Rattle.ts_table_rows.specs.TableValues.{TableHolding};
 ghost use Rattle.ts_packetize.specs.Ordinals.{replaced_at};
 ghost use Rattle.plug_psi.specs.Contents.{entries_of};
-ghost use Rattle.plug_psi.specs.Edits.{Change};
-ghost use Rattle.plug_psi.specs.EditedCycles.{cycles_of, replaced};
+ghost use Rattle.plug_psi.specs.EditedCycles.{EditsInUse, cycles_by, replaced_by};
 ghost use Rattle.plug_psi.specs.LastFound.{last_found, last_one};
 ghost use Rattle.plug_psi.specs.LastTables.{AreLast};
 
 /// What is put in a packet's place is the same by the cycles of the whole list of taken packets, also of those after
-/// it. So an editor need not know what is to come. A law; it runs nothing.
+/// it, and whatever edits are in use at those. So an editor need not know what is to come. A law; it runs nothing.
 pub fn later_packets_change_nothing()
-    ensures { (pid : ℕ) (edit : List (List ℕ) → Change) (taken more : List (List ℕ)) (packet : List ℕ)
-        → replaced_at (cycles_of pid edit (taken ++ packet ∷ more)) (length taken) ≡ replaced pid edit taken packet }
+    ensures { (pid : ℕ) (edits later : EditsInUse) (taken more : List (List ℕ)) (packet : List ℕ)
+        → ((s : ℕ) → s ≤ length taken → later s ≡ edits s)
+        → replaced_at (cycles_by pid later (taken ++ packet ∷ more)) (length taken) ≡ replaced_by pid edits taken packet }
 {}
 
 /// The contents have each key of the tables once, in the order in which the keys were first complete, with the last

@@ -6,6 +6,7 @@
 #![tactic(auto)]
 
 mod altered_tables;
+mod bat_as_table;
 mod by_pid;
 mod cat_as_table;
 mod changes;
@@ -42,6 +43,8 @@ mod reading;
 mod referred;
 mod sdt_as_table;
 mod unedited;
+mod varied_editor;
+mod varied_laws;
 mod written;
 mod written_table;
 
@@ -68,5 +71,7 @@ pub use reading::Reading;
 pub use referred::Referred;
 pub use ts_demux::FailureLatch;
 pub use unedited::Unedited;
+pub use varied_editor::VariedEditor;
+pub use varied_laws::an_edit_that_stays_is_one_edit;
 pub use written::in_room;
 pub use written_table::sections_or_same;

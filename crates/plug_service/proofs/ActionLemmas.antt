@@ -10,16 +10,17 @@ use Rattle.ts_table_rows.specs.TableValues.{TableHolding}
 use Rattle.plug_psi.specs.InForce.{follows, is_named, may_have_tables, names, pat_of, pid_for, pmt_of, services_in}
 use Rattle.plug_psi.specs.ServicePids.{has_pid}
 use Rattle.plug_psi.proofs.ForceLemmas.{pat-other}
-use Rattle.plug_service.specs.Actions.{action_after, action_of, is_edit, keeps_eit, kept_action, may_be_read, own_pids, pmt_pids, removed_action}
+use Rattle.plug_service.specs.Actions.{action_after, action_of, edits_eits, edits_nits, is_edit, kept_action, may_be_read, own_pids, pmt_pids, removed_action}
 use Rattle.plug_service.specs.declared.way.Way.{Way}
 use Rattle.plug_service.specs.declared.way.Way.TheVariants.{Keep, Remove}
 use Rattle.plug_service.specs.declared.action.Action.{Action}
-use Rattle.plug_service.specs.declared.action.Action.TheVariants.{EditPat, EditSdt, EditEit, EditPmt, Pass, Drop}
+use Rattle.plug_service.specs.declared.action.Action.TheVariants.{EditPat, EditSdt, EditNit, EditEit, EditPmt, Pass, Drop}
 
 -- the actions of packets that carry PATs, and of those that carry SDTs
 abbrev pub edits_pat : Action → Bool
 edits_pat EditPat = true
 edits_pat EditSdt = false
+edits_pat EditNit = false
 edits_pat EditEit = false
 edits_pat EditPmt = false
 edits_pat Pass = false
@@ -28,6 +29,7 @@ edits_pat Drop = false
 abbrev pub edits_sdt : Action → Bool
 edits_sdt EditPat = false
 edits_sdt EditSdt = true
+edits_sdt EditNit = false
 edits_sdt EditEit = false
 edits_sdt EditPmt = false
 edits_sdt Pass = false
@@ -37,15 +39,27 @@ edits_sdt Drop = false
 abbrev pub edits_eit : Action → Bool
 edits_eit EditPat = false
 edits_eit EditSdt = false
+edits_eit EditNit = false
 edits_eit EditEit = true
 edits_eit EditPmt = false
 edits_eit Pass = false
 edits_eit Drop = false
 
+-- the action of those that carry NITs
+abbrev pub edits_nit : Action → Bool
+edits_nit EditPat = false
+edits_nit EditSdt = false
+edits_nit EditNit = true
+edits_nit EditEit = false
+edits_nit EditPmt = false
+edits_nit Pass = false
+edits_nit Drop = false
+
 -- an action of packets on another PID
 abbrev IsOther : Action → Type 0
 IsOther EditPat = ⊥
 IsOther EditSdt = ⊥
+IsOther EditNit = Unit {0}
 IsOther EditEit = Unit {0}
 IsOther EditPmt = Unit {0}
 IsOther Pass = Unit {0}
@@ -69,24 +83,29 @@ removed_other false b c pid = chosen _
     chosen true = tt
     chosen false = tt
 
--- an action of packets that carry no table that is kept
-kept_none : (a b : Bool) (pid : ℕ) → edits_eit (kept_action a b pid) ≡ false
-kept_none true b pid = null (pid == NULL_PID)
-  where
-    null : (d : Bool) → edits_eit (if d then Drop else EditPmt) ≡ false
-    null true = refl
-    null false = refl
-kept_none false true pid = refl
-kept_none false false pid = refl
+-- a test of actions that holds of none that packets have on a PID of a service
+record None_of (is : Action → Bool) : Type 0 where
+  pmt : is EditPmt ≡ false
+  pass : is Pass ≡ false
+  drop : is Drop ≡ false
 
-removed_none : (a b c : Bool) (pid : ℕ) → edits_eit (removed_action a b c pid) ≡ false
-removed_none true true c pid = refl
-removed_none true false c pid = refl
-removed_none false b c pid = chosen _
-  where
-    chosen : (d : Bool) → edits_eit (if d then Drop else Pass) ≡ false
-    chosen true = refl
-    chosen false = refl
+chosen_none : (is : Action → Bool) (x y : Action) → is x ≡ false → is y ≡ false → (d : Bool) → is (if d then x else y) ≡ false
+chosen_none is x y e f true = e
+chosen_none is x y e f false = f
+
+kept_none : (is : Action → Bool) → None_of is → (a b : Bool) (pid : ℕ) → is (kept_action a b pid) ≡ false
+kept_none is none true b pid = chosen_none is Drop EditPmt none.drop none.pmt (pid == NULL_PID)
+kept_none is none false b pid = chosen_none is Pass Drop none.pass none.drop b
+
+removed_none : (is : Action → Bool) → None_of is → (a b c : Bool) (pid : ℕ) → is (removed_action a b c pid) ≡ false
+removed_none is none true b c pid = chosen_none is Pass Drop none.pass none.drop b
+removed_none is none false b c pid = chosen_none is Drop Pass none.drop none.pass _
+
+no_eit : None_of edits_eit
+no_eit = record { pmt = refl; pass = refl; drop = refl }
+
+no_nit : None_of edits_nit
+no_nit = record { pmt = refl; pass = refl; drop = refl }
 
 -- the tables that are kept, by three tests
 abbrev first_kept : (a b c : Bool) → Action → Action
@@ -106,13 +125,41 @@ first_eit false true false other o apart = refl
 first_eit false false true other o apart = refl
 first_eit false false false other o apart = o
 
+-- no NIT is edited if services are kept
+first_nit : (a b c : Bool) (other : Action) → edits_nit other ≡ false → edits_nit (first_kept a b c other) ≡ false
+first_nit true b c other o = refl
+first_nit false true c other o = refl
+first_nit false false true other o = refl
+first_nit false false false other o = o
+
+-- the tables that are edited if services are removed, by two tests
+abbrev first_removed : (a b : Bool) → Action → Action
+first_removed a b other = if a then EditNit else (if b then EditEit else other)
+
+gone_other : (a b : Bool) (other : Action) → IsOther other → IsOther (first_removed a b other)
+gone_other true b other o = tt
+gone_other false true other o = tt
+gone_other false false other o = o
+
+gone_eit : (a b : Bool) (other : Action) → edits_eit other ≡ false → (b ≡ true → a ≡ false) → edits_eit (first_removed a b other) ≡ b
+gone_eit true true other o apart = absurd (true≢false (apart refl))
+gone_eit true false other o apart = refl
+gone_eit false true other o apart = refl
+gone_eit false false other o apart = o
+
+gone_nit : (a b : Bool) (other : Action) → edits_nit other ≡ false → edits_nit (first_removed a b other) ≡ a
+gone_nit true b other o = refl
+gone_nit false true other o = refl
+gone_nit false false other o = o
+
 -- the fixed PIDs in front of them
-front_eit : (x y : Bool) (other : Action) (c : Bool) → edits_eit other ≡ c → (c ≡ true → (x ≡ false) × (y ≡ false)) → edits_eit (if x then EditPat else (if y then EditSdt else other)) ≡ c
-front_eit true y other true o apart = absurd (true≢false (apart refl).0)
-front_eit true y other false o apart = refl
-front_eit false true other true o apart = absurd (true≢false (apart refl).1)
-front_eit false true other false o apart = refl
-front_eit false false other c o apart = o
+front : (is : Action → Bool) → is EditPat ≡ false → is EditSdt ≡ false → (x y : Bool) (other : Action) (c : Bool) → is other ≡ c →
+    (c ≡ true → (x ≡ false) × (y ≡ false)) → is (if x then EditPat else (if y then EditSdt else other)) ≡ c
+front is pat sdt true y other true o apart = absurd (true≢false (apart refl).0)
+front is pat sdt true y other false o apart = pat
+front is pat sdt false true other true o apart = absurd (true≢false (apart refl).1)
+front is pat sdt false true other false o apart = sdt
+front is pat sdt false false other c o apart = o
 
 -- what the first two tests are, where the action is known
 chosen_first : (x y : Bool) (other action : Action) → IsOther other → (x ≡ true → y ≡ false) → action ≡ (if x then EditPat else (if y then EditSdt else other)) → (x ≡ edits_pat action) × (y ≡ edits_sdt action)
@@ -123,6 +170,7 @@ chosen_first false false other action o apart e = (sym (ap edits_pat e ∙ none_
     none_pat : (f : Action) → IsOther f → edits_pat f ≡ false
     none_pat EditPat o = absurd o
     none_pat EditSdt o = refl
+    none_pat EditNit o = refl
     none_pat EditEit o = refl
     none_pat EditPmt o = refl
     none_pat Pass o = refl
@@ -131,6 +179,7 @@ chosen_first false false other action o apart e = (sym (ap edits_pat e ∙ none_
     none_sdt : (f : Action) → IsOther f → edits_sdt f ≡ false
     none_sdt EditPat o = refl
     none_sdt EditSdt o = absurd o
+    none_sdt EditNit o = refl
     none_sdt EditEit o = refl
     none_sdt EditPmt o = refl
     none_sdt Pass o = refl
@@ -146,7 +195,8 @@ pub fixed_pids :
 unfolding action_after
 fixed_pids (Keep kept) services packets pid action e =
     chosen_first (pid == 0) (pid == 17) _ action (first_other (kept.nit && (pid == 16)) (kept.time && (pid == 20)) (kept.eit && (pid == 18)) _ (kept_other _ _ pid)) (apart pid) e
-fixed_pids Remove services packets pid action e = chosen_first (pid == 0) (pid == 17) _ action (removed_other _ _ _ pid) (apart pid) e
+fixed_pids (Remove everywhere) services packets pid action e =
+    chosen_first (pid == 0) (pid == 17) _ action (gone_other (everywhere && (pid == 16)) (everywhere && (pid == 18)) _ (removed_other _ _ _ pid)) (apart pid) e
 
 right_of : (a b : Bool) → (a && b) ≡ true → b ≡ true
 right_of true b e = e
@@ -159,21 +209,46 @@ none_of false b e = refl
 at-eighteen : (pid : ℕ) → (pid == 18) ≡ true → ((pid == 0) ≡ false) × ((pid == 17) ≡ false) × ((pid == 16) ≡ false) × ((pid == 20) ≡ false)
 at-eighteen pid e = (grind (arith, nat_tests, e), grind (arith, nat_tests, e), grind (arith, nat_tests, e), grind (arith, nat_tests, e))
 
--- and as EITs on PID 18, if EIT sections are kept
+at-sixteen : (pid : ℕ) → (pid == 16) ≡ true → ((pid == 0) ≡ false) × ((pid == 17) ≡ false)
+at-sixteen pid e = (grind (arith, nat_tests, e), grind (arith, nat_tests, e))
+
+-- and as EITs on PID 18, if EIT sections are edited
 pub eit_pid :
     (way : Way) (services : List ℕ) (packets : List (List ℕ)) (pid : ℕ) (action : Action) → action ≡ action_after way services packets pid →
-    (keeps_eit way && (pid == 18)) ≡ edits_eit action
+    (edits_eits way && (pid == 18)) ≡ edits_eit action
 unfolding action_after
 eit_pid (Keep kept) services packets pid action e =
     let a = kept.nit && (pid == 16) in
     let b = kept.time && (pid == 20) in
     let c = kept.eit && (pid == 18) in
     sym (ap edits_eit e
-    ∙ front_eit (pid == 0) (pid == 17) _ c
-    (first_eit a b c _ (kept_none _ _ pid)
+    ∙ front edits_eit refl refl (pid == 0) (pid == 17) _ c
+    (first_eit a b c _ (kept_none edits_eit no_eit _ _ pid)
     (λ is. let at = at-eighteen pid (right_of kept.eit (pid == 18) is) in (none_of kept.nit (pid == 16) at.2, none_of kept.time (pid == 20) at.3)))
     (λ is. let at = at-eighteen pid (right_of kept.eit (pid == 18) is) in (at.0, at.1)))
-eit_pid Remove services packets pid action e = sym (ap edits_eit e ∙ front_eit (pid == 0) (pid == 17) _ false (removed_none _ _ _ pid) (λ is. absurd (true≢false (sym is))))
+eit_pid (Remove everywhere) services packets pid action e =
+    let a = everywhere && (pid == 16) in
+    let b = everywhere && (pid == 18) in
+    sym (ap edits_eit e
+    ∙ front edits_eit refl refl (pid == 0) (pid == 17) _ b
+    (gone_eit a b _ (removed_none edits_eit no_eit _ _ _ pid) (λ is. none_of everywhere (pid == 16) (at-eighteen pid (right_of everywhere (pid == 18) is)).2))
+    (λ is. let at = at-eighteen pid (right_of everywhere (pid == 18) is) in (at.0, at.1)))
+
+-- and as NITs on PID 16, if NITs are edited
+pub nit_pid :
+    (way : Way) (services : List ℕ) (packets : List (List ℕ)) (pid : ℕ) (action : Action) → action ≡ action_after way services packets pid →
+    (edits_nits way && (pid == 16)) ≡ edits_nit action
+unfolding action_after
+nit_pid (Keep kept) services packets pid action e =
+    sym (ap edits_nit e
+    ∙ front edits_nit refl refl (pid == 0) (pid == 17) _ false
+    (first_nit (kept.nit && (pid == 16)) (kept.time && (pid == 20)) (kept.eit && (pid == 18)) _ (kept_none edits_nit no_nit _ _ pid))
+    (λ is. absurd (true≢false (sym is))))
+nit_pid (Remove everywhere) services packets pid action e =
+    sym (ap edits_nit e
+    ∙ front edits_nit refl refl (pid == 0) (pid == 17) _ (everywhere && (pid == 16))
+    (gone_nit (everywhere && (pid == 16)) (everywhere && (pid == 18)) _ (removed_none edits_nit no_nit _ _ _ pid))
+    (λ is. at-sixteen pid (right_of everywhere (pid == 16) is)))
 
 -- the action of a PID by the tables in force after packets
 pub action-after : (way : Way) (services : List ℕ) (packets : List (List ℕ)) (pid : ℕ) → action_of way services (pat_of packets) (λ other. pmt_of other packets) pid ≡ action_after way services packets pid
@@ -256,13 +331,21 @@ first-kept-plain false true c other e o = refl
 first-kept-plain false false true other e o = cc
 first-kept-plain false false false other e o = o
 
+first-removed-plain : (a b : Bool) (other : Action) → a ≡ false → b ≡ false → is_edit other ≡ false → is_edit (first_removed a b other) ≡ false
+first-removed-plain true b other e f o = cc
+first-removed-plain false true other e f o = cc
+first-removed-plain false false other e f o = o
+
 plain-of : (way : Way) (services : List ℕ) (pat : Option TableHolding) (pmts : ℕ → Option TableHolding) (pid : ℕ) →
-    (pid == 17) ≡ false → (pid == 0) ≡ false → (keeps_eit way && (pid == 18)) ≡ false → is_named pat pid ≡ false → is_edit (action_of way services pat pmts pid) ≡ false
-plain-of (Keep kept) services pat pmts pid e f g none =
+    (pid == 17) ≡ false → (pid == 0) ≡ false → (edits_nits way && (pid == 16)) ≡ false → (edits_eits way && (pid == 18)) ≡ false → is_named pat pid ≡ false →
+    is_edit (action_of way services pat pmts pid) ≡ false
+plain-of (Keep kept) services pat pmts pid e f n g none =
     first-plain (pid == 0) (pid == 17) _ f e
     ∙ first-kept-plain (kept.nit && (pid == 16)) (kept.time && (pid == 20)) (kept.eit && (pid == 18)) _ g
     (kept-plain (has_pid (pmt_pids services pat) pid) (has_pid (own_pids services pmts) pid) pid (unfollowed pat services pid none))
-plain-of Remove services pat pmts pid e f g none = first-plain (pid == 0) (pid == 17) _ f e ∙ removed-plain _ _ _ pid
+plain-of (Remove everywhere) services pat pmts pid e f n g none =
+    first-plain (pid == 0) (pid == 17) _ f e
+    ∙ first-removed-plain (everywhere && (pid == 16)) (everywhere && (pid == 18)) _ n g (removed-plain _ _ _ pid)
 
 -- a packet on a PID whose tables are neither read nor edited is not edited
 pub unread-plain :
@@ -270,8 +353,9 @@ pub unread-plain :
     action ≡ action_after way services (met ++ p ∷ []) (pid_of p) → may_be_read way (pid_of p) met ≡ false → is_edit action ≡ false
 unread-plain way services met p action e unread =
     let first = neither (pid_of p == 17) _ unread in
-    let kept = neither (keeps_eit way && (pid_of p == 18)) (may_have_tables (pid_of p) met) first.1 in
-    let second = neither (pid_of p == 0) (follows (pid_of p) met) kept.1 in
+    let nits = neither (edits_nits way && (pid_of p == 16)) _ first.1 in
+    let eits = neither (edits_eits way && (pid_of p == 18)) (may_have_tables (pid_of p) met) nits.1 in
+    let second = neither (pid_of p == 0) (follows (pid_of p) met) eits.1 in
     ap is_edit (e ∙ sym (action-after way services (met ++ p ∷ []) (pid_of p)))
-    ∙ plain-of way services (pat_of (met ++ p ∷ [])) (λ other. pmt_of other (met ++ p ∷ [])) (pid_of p) first.0 second.0 kept.0
+    ∙ plain-of way services (pat_of (met ++ p ∷ [])) (λ other. pmt_of other (met ++ p ∷ [])) (pid_of p) first.0 second.0 nits.0 eits.0
     (ap (λ pat. is_named pat (pid_of p)) (pat-other met p second.0) ∙ second.1)

@@ -16,7 +16,7 @@ pub told-by :
     (has_pid own pid && not (has_pid others pid)) ≡ is_in_pmts way services pat pmts pid
 told-by (Keep kept) services pat pmts own others e f pid =
     ap (λ l. has_pid own pid && not (has_pid l pid)) f ∙ and_true (has_pid own pid) ∙ ap (λ l. has_pid l pid) e
-told-by Remove services pat pmts own others e f pid = ap₂ (λ l m. has_pid l pid && not (has_pid m pid)) e f
+told-by (Remove everywhere) services pat pmts own others e f pid = ap₂ (λ l m. has_pid l pid && not (has_pid m pid)) e f
 
 -- what the flags say by some PIDs alone
 pub told-all : (pids pids' : List ℕ) → pids ≡ pids' → (pid : ℕ) → (has_pid pids pid && not (has_pid [] pid)) ≡ has_pid pids' pid

@@ -54,7 +54,7 @@ one-there way service pat pmts = or-false (is_there way service pat (pmts servic
 pub one-stays : (kept : Kept) (service id : ℕ) → stays (Keep kept) (service ∷ []) id ≡ (id == service)
 one-stays kept = one-is
 
-pub one-goes : (service id : ℕ) → stays Remove (service ∷ []) id ≡ not (id == service)
+pub one-goes : (service id : ℕ) → stays (Remove false) (service ∷ []) id ≡ not (id == service)
 one-goes service id = ap not (one-is service id)
 
 -- on its PID its current PMT is carried
@@ -119,7 +119,7 @@ one-besides service pmts (entry ∷ entries) =
 -- if it is removed
 pub one-removed :
     (service : ℕ) (pat : Option TableHolding) (pmts : ℕ → Option TableHolding) (pid : ℕ) →
-    action_of Remove (service ∷ []) pat pmts pid
+    action_of (Remove false) (service ∷ []) pat pmts pid
     ≡ edited_first pid (removed_action (is_at (pid_for pat service) pid) (is_shared_at pat (pid_for pat service))
     (has_pid (pids_of (pmts service)) pid && not (has_pid (flat_map (pids_but service pmts) (services_in pat)) pid)) pid)
 one-removed service pat pmts pid =

@@ -7,11 +7,11 @@ use Rattle.plug_psi.specs.Edits.{away, same}
 use Rattle.plug_psi.proofs.RowTables.{item_of, table_of}
 use Rattle.plug_service.specs.Actions.{action_of}
 use Rattle.plug_service.specs.Presence.{is_any_there}
-use Rattle.plug_service.specs.ServiceEdits.{carried_if_one, entry_stays, kept_eit, other_change}
+use Rattle.plug_service.specs.ServiceEdits.{carried_if_one, entry_stays, kept_eit, other_change, others_eit, stream_of}
 use Rattle.plug_service.specs.Services.{each_once}
 use Rattle.plug_service.specs.declared.kept.Kept.{Kept}
 use Rattle.plug_service.specs.declared.way.Way.TheVariants.{Keep, Remove}
-use Rattle.plug_service.specs.declared.action.Action.TheVariants.{EditPat, EditSdt, EditEit, EditPmt, Pass, Drop}
+use Rattle.plug_service.specs.declared.action.Action.TheVariants.{EditPat, EditSdt, EditNit, EditEit, EditPmt, Pass, Drop}
 
 -- service 1 on PID 4096 with PIDs 256, 257 and 20, service 2 on PID 4097 with PIDs 256 and 258; the network PID is 16
 abbrev pub pat_row : Option TableHolding
@@ -59,12 +59,28 @@ no-bat-row : other_change nothing_else (head_row 0x4A 1 ∷ []) ≡ away
 no-bat-row = refl
 
 -- where it is removed
-removed-row : map (action_of Remove (1 ∷ []) pat_row pmts_row) (0 ∷ 17 ∷ 4096 ∷ 4097 ∷ 256 ∷ 257 ∷ 258 ∷ 20 ∷ 16 ∷ 8191 ∷ [])
+removed-row : map (action_of (Remove false) (1 ∷ []) pat_row pmts_row) (0 ∷ 17 ∷ 4096 ∷ 4097 ∷ 256 ∷ 257 ∷ 258 ∷ 20 ∷ 16 ∷ 8191 ∷ [])
     ≡ EditPat ∷ EditSdt ∷ Drop ∷ Pass ∷ Pass ∷ Drop ∷ Pass ∷ Pass ∷ Pass ∷ Pass ∷ []
 removed-row = refl
 
+-- and where it is removed everywhere
+everywhere-row : map (action_of (Remove true) (1 ∷ []) pat_row pmts_row) (0 ∷ 17 ∷ 4096 ∷ 4097 ∷ 256 ∷ 257 ∷ 258 ∷ 20 ∷ 16 ∷ 18 ∷ 19 ∷ 8191 ∷ [])
+    ≡ EditPat ∷ EditSdt ∷ Drop ∷ Pass ∷ Pass ∷ Drop ∷ Pass ∷ Pass ∷ EditNit ∷ EditEit ∷ Pass ∷ Pass ∷ []
+everywhere-row = refl
+
+-- its EIT sections go, and all other sections are given
+others-given-row : map (λ section. is_some (others_eit (1 ∷ 3 ∷ []) section))
+    (head_row 0x4E 1 ∷ head_row 0x50 3 ∷ head_row 0x5F 3 ∷ head_row 0x4E 2 ∷ head_row 0x4F 1 ∷ head_row 0x60 1 ∷ head_row 0x42 1 ∷ [])
+    ≡ false ∷ false ∷ false ∷ true ∷ true ∷ true ∷ true ∷ []
+unfolding bit_of field
+others-given-row = refl
+
+-- the transport stream is that of the PAT
+stream-row : map stream_of (pat_row ∷ None ∷ []) ≡ Some 1 ∷ None ∷ []
+stream-row = refl
+
 -- two entries on one PID: what is left of it is shared
-shared-row : map (action_of Remove (1 ∷ []) (Some (table_of 0x00 1 [] [] (item_of 1 100 [] ∷ item_of 3 100 [] ∷ []))) (λ _. None)) (100 ∷ 101 ∷ []) ≡ Pass ∷ Pass ∷ []
+shared-row : map (action_of (Remove false) (1 ∷ []) (Some (table_of 0x00 1 [] [] (item_of 1 100 [] ∷ item_of 3 100 [] ∷ []))) (λ _. None)) (100 ∷ 101 ∷ []) ≡ Pass ∷ Pass ∷ []
 shared-row = refl
 
 -- both are kept, and one that the PAT lacks
@@ -73,7 +89,7 @@ two-kept-row : map (action_of (Keep nothing_else) (2 ∷ 9 ∷ 1 ∷ []) pat_row
 two-kept-row = refl
 
 -- both are removed: PID 256 is of no other service now
-two-removed-row : map (action_of Remove (2 ∷ 1 ∷ []) pat_row pmts_row) (0 ∷ 17 ∷ 4096 ∷ 4097 ∷ 256 ∷ 257 ∷ 258 ∷ 20 ∷ 16 ∷ 8191 ∷ [])
+two-removed-row : map (action_of (Remove false) (2 ∷ 1 ∷ []) pat_row pmts_row) (0 ∷ 17 ∷ 4096 ∷ 4097 ∷ 256 ∷ 257 ∷ 258 ∷ 20 ∷ 16 ∷ 8191 ∷ [])
     ≡ EditPat ∷ EditSdt ∷ Drop ∷ Drop ∷ Drop ∷ Drop ∷ Drop ∷ Pass ∷ Pass ∷ Pass ∷ []
 two-removed-row = refl
 
@@ -82,11 +98,11 @@ abbrev pub together_row : Option TableHolding
 together_row = Some (table_of 0x00 1 [] [] (item_of 1 100 [] ∷ item_of 2 100 [] ∷ item_of 3 100 [] ∷ item_of 4 101 [] ∷ item_of 5 101 [] ∷ item_of 5 101 [] ∷ []))
 
 together-removed-row :
-    map (λ services. action_of Remove services together_row (λ _. None) 100) ((1 ∷ []) ∷ (1 ∷ 3 ∷ []) ∷ (1 ∷ 2 ∷ 3 ∷ []) ∷ []) ≡ Pass ∷ Pass ∷ Drop ∷ []
+    map (λ services. action_of (Remove false) services together_row (λ _. None) 100) ((1 ∷ []) ∷ (1 ∷ 3 ∷ []) ∷ (1 ∷ 2 ∷ 3 ∷ []) ∷ []) ≡ Pass ∷ Pass ∷ Drop ∷ []
 together-removed-row = refl
 
 further-entry-row :
-    map (λ services. action_of Remove services together_row (λ _. None) 101) ((4 ∷ []) ∷ (5 ∷ []) ∷ (4 ∷ 5 ∷ []) ∷ []) ≡ Pass ∷ Pass ∷ Pass ∷ []
+    map (λ services. action_of (Remove false) services together_row (λ _. None) 101) ((4 ∷ []) ∷ (5 ∷ []) ∷ (4 ∷ 5 ∷ []) ∷ []) ≡ Pass ∷ Pass ∷ Pass ∷ []
 further-entry-row = refl
 
 -- PMTs of services on one PID, where 1 and 3 are kept
@@ -97,7 +113,7 @@ together-kept-row = refl
 entries-row : map (entry_stays (Keep nothing_else) (1 ∷ 3 ∷ [])) (item_of 0 16 [] ∷ item_of 1 100 [] ∷ item_of 2 100 [] ∷ item_of 3 101 [] ∷ []) ≡ true ∷ true ∷ false ∷ true ∷ []
 entries-row = refl
 
-others-row : map (entry_stays Remove (1 ∷ 3 ∷ [])) (item_of 0 16 [] ∷ item_of 1 100 [] ∷ item_of 2 100 [] ∷ item_of 3 101 [] ∷ []) ≡ true ∷ false ∷ true ∷ false ∷ []
+others-row : map (entry_stays (Remove false) (1 ∷ 3 ∷ [])) (item_of 0 16 [] ∷ item_of 1 100 [] ∷ item_of 2 100 [] ∷ item_of 3 101 [] ∷ []) ≡ true ∷ false ∷ true ∷ false ∷ []
 others-row = refl
 
 -- one of the services is enough; to be kept it has to have a PMT
@@ -107,7 +123,7 @@ there-row = refl
 there-without-pmt-row : is_any_there (Keep nothing_else) (1 ∷ 2 ∷ []) together_row (λ _. None) ≡ false
 there-without-pmt-row = refl
 
-there-to-remove-row : is_any_there Remove (9 ∷ 2 ∷ []) together_row (λ _. None) ≡ true
+there-to-remove-row : is_any_there (Remove false) (9 ∷ 2 ∷ []) together_row (λ _. None) ≡ true
 there-to-remove-row = refl
 
 -- a service that is there twice counts once

@@ -31,14 +31,11 @@ no-pat = found-none current_pat 0
 -- a service that the PAT lacks is not there
 pub not-there : (way : Way) (service : ℕ) (pat pmt : Option TableHolding) → pid_for pat service ≡ None → false ≡ is_there way service pat pmt
 not-there (Keep kept) service pat pmt e = sym (ap (λ o. is_some o && is_some pmt) e)
-not-there Remove service pat pmt e = sym (ap is_some e)
+not-there (Remove everywhere) service pat pmt e = sym (ap is_some e)
 
--- one that it has is there to be removed, and where there is a PMT, to be kept
+-- one that it has is there to be kept where there is a PMT
 pub there-kept : (kept : Kept) (service : ℕ) (pat pmt : Option TableHolding) → is_some (pid_for pat service) ≡ true → is_some pmt ≡ is_there (Keep kept) service pat pmt
 there-kept kept service pat pmt e = sym (ap (λ b. b && is_some pmt) e)
-
-pub there-removed : (service : ℕ) (pat pmt : Option TableHolding) → is_some (pid_for pat service) ≡ true → true ≡ is_there Remove service pat pmt
-there-removed service pat pmt e = sym e
 
 -- a thing that is lent is there as what is seen of it is
 pub held-some : {X Y : Type 0} (view : X → Y) (lent : Option (Bor X)) → is_some lent ≡ is_some (option_map view (option_copied lent))

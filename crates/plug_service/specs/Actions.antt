@@ -13,7 +13,7 @@ use Rattle.plug_service.specs.declared.kept.Kept.{Kept}
 use Rattle.plug_service.specs.declared.way.Way.{Way}
 use Rattle.plug_service.specs.declared.way.Way.TheVariants.{Keep, Remove}
 use Rattle.plug_service.specs.declared.action.Action.{Action}
-use Rattle.plug_service.specs.declared.action.Action.TheVariants.{EditPat, EditSdt, EditEit, EditPmt, Pass, Drop}
+use Rattle.plug_service.specs.declared.action.Action.TheVariants.{EditPat, EditSdt, EditNit, EditEit, EditPmt, Pass, Drop}
 
 -- the packets on PID 0 and PID 17 are edited, whatever becomes of those on other PIDs
 abbrev pub edited_first : ℕ → Action → Action
@@ -24,6 +24,11 @@ abbrev pub kept_first : Kept → ℕ → Action → Action
 kept_first kept pid other =
     if kept.nit && (pid == 16) then Pass
     else (if kept.time && (pid == 20) then Pass else (if kept.eit && (pid == 18) then EditEit else other))
+
+-- if services are removed everywhere, NITs and EITs are edited, whatever becomes of packets on other PIDs
+abbrev pub removed_first : Bool → ℕ → Action → Action
+removed_first everywhere pid other =
+    if everywhere && (pid == 16) then EditNit else (if everywhere && (pid == 18) then EditEit else other)
 
 -- If services are kept, packets on the PIDs of their PMTs are edited, but null packets are dropped. Packets on the PIDs that
 -- a PMT of theirs has pass, and all others are dropped.
@@ -76,12 +81,13 @@ is_in_pmts_alone services pat pmts pid =
 -- has it too, and whether their PMTs have it; if the services are removed, and no other's
 abbrev pub action_by : Way → Bool → Bool → Bool → ℕ → Action
 action_by (Keep kept) is_of_pmt is_shared is_in_pmt pid = edited_first pid (kept_first kept pid (kept_action is_of_pmt is_in_pmt pid))
-action_by Remove is_of_pmt is_shared is_in_pmt_alone pid = edited_first pid (removed_action is_of_pmt is_shared is_in_pmt_alone pid)
+action_by (Remove everywhere) is_of_pmt is_shared is_in_pmt_alone pid =
+    edited_first pid (removed_first everywhere pid (removed_action is_of_pmt is_shared is_in_pmt_alone pid))
 
 -- what the last of these tests is
 abbrev pub is_in_pmts : Way → List ℕ → Option TableHolding → (ℕ → Option TableHolding) → ℕ → Bool
 is_in_pmts (Keep kept) services pat pmts pid = has_pid (own_pids services pmts) pid
-is_in_pmts Remove services pat pmts pid = is_in_pmts_alone services pat pmts pid
+is_in_pmts (Remove everywhere) services pat pmts pid = is_in_pmts_alone services pat pmts pid
 
 -- what becomes of packets on a PID if this PAT and these PMTs are in force
 abbrev pub action_of : Way → List ℕ → Option TableHolding → (ℕ → Option TableHolding) → ℕ → Action
@@ -97,6 +103,7 @@ abbrev pub edits_pmt : Action → Bool
 edits_pmt EditPmt = true
 edits_pmt EditPat = false
 edits_pmt EditSdt = false
+edits_pmt EditNit = false
 edits_pmt EditEit = false
 edits_pmt Pass = false
 edits_pmt Drop = false
@@ -105,26 +112,34 @@ edits_pmt Drop = false
 abbrev pub is_edit : Action → Bool
 is_edit EditPat = true
 is_edit EditSdt = true
+is_edit EditNit = true
 is_edit EditEit = true
 is_edit EditPmt = true
 is_edit Pass = false
 is_edit Drop = false
 
--- whether EIT sections are edited
-abbrev pub keeps_eit : Way → Bool
-keeps_eit (Keep kept) = kept.eit
-keeps_eit Remove = false
+-- whether NITs are edited
+abbrev pub edits_nits : Way → Bool
+edits_nits (Keep kept) = false
+edits_nits (Remove everywhere) = everywhere
 
--- whether the tables on a PID are read or edited, after some packets of any PID: those that may come into force, the SDT, and
--- the EIT sections that are kept
+-- whether EIT sections are edited
+abbrev pub edits_eits : Way → Bool
+edits_eits (Keep kept) = kept.eit
+edits_eits (Remove everywhere) = everywhere
+
+-- whether the tables on a PID are read or edited, after some packets of any PID: those that may come into force, SDTs and BATs,
+-- and NITs and EIT sections where they are edited
 abbrev pub may_be_read : Way → ℕ → List (List ℕ) → Bool
-may_be_read way pid packets = (pid == 17) || ((keeps_eit way && (pid == 18)) || may_have_tables pid packets)
+may_be_read way pid packets =
+    (pid == 17) || ((edits_nits way && (pid == 16)) || ((edits_eits way && (pid == 18)) || may_have_tables pid packets))
 
 -- a PID whose packets are edited as those of PMTs is not that of null packets
 abbrev pub IsEditable : Action → ℕ → Type 0
 IsEditable EditPmt pid = pid < NULL_PID
 IsEditable EditPat pid = Unit {0}
 IsEditable EditSdt pid = Unit {0}
+IsEditable EditNit pid = Unit {0}
 IsEditable EditEit pid = Unit {0}
 IsEditable Pass pid = Unit {0}
 IsEditable Drop pid = Unit {0}

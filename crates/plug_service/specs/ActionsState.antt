@@ -16,7 +16,7 @@ use Rattle.plug_service.specs.declared.service_follower.ServiceFollower.{Service
 -- the PIDs whose flags are not set even if the services' PMTs have them
 abbrev pub protected_pids : Way → List ℕ → Option TableHolding → (ℕ → Option TableHolding) → List ℕ
 protected_pids (Keep kept) services pat pmts = []
-protected_pids Remove services pat pmts = other_pids services pat pmts
+protected_pids (Remove everywhere) services pat pmts = other_pids services pat pmts
 
 -- a row has for each PID what becomes of its packets if this PAT and these PMTs are in force
 abbrev pub AreActions : Way → List ℕ → List Action → Option TableHolding → (ℕ → Option TableHolding) → Type 0

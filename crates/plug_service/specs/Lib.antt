@@ -11,6 +11,7 @@ pub mod EditorsState
 pub mod ServiceState
 pub mod ServiceSettings
 pub mod ServiceWords
+pub mod SvremoveWords
 pub mod SvremoveEntry
 pub mod ZapWords
 pub mod ZapEntry

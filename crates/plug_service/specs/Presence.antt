@@ -13,7 +13,7 @@ use Rattle.plug_service.specs.declared.way.Way.TheVariants.{Keep, Remove}
 -- kept, there is such a PMT
 abbrev pub is_there : Way → ℕ → Option TableHolding → Option TableHolding → Bool
 is_there (Keep kept) service pat pmt = is_some (pid_for pat service) && is_some pmt
-is_there Remove service pat pmt = is_some (pid_for pat service)
+is_there (Remove everywhere) service pat pmt = is_some (pid_for pat service)
 
 -- one of the services is there if this PAT and these PMTs are in force
 abbrev pub is_any_there : Way → List ℕ → Option TableHolding → (ℕ → Option TableHolding) → Bool

@@ -9,13 +9,17 @@ use Rattle.ts_table_rows.specs.RunReading.{read_run}
 use Rattle.ts_table_rows.specs.TableValues.{ItemHolding, TableHolding}
 use Rattle.ts_psi.specs.PsiPages.{pat_page, pmt_page}
 use Rattle.ts_psi.specs.PatTables.{is_network, read_pat}
-use Rattle.ts_si.specs.SiPages.{sdt_page}
+use Rattle.ts_table_pages.specs.SiPages.{bat_page, nit_page, sdt_page}
 use Rattle.ts_eit.specs.EitSections.{is_of_service}
 use Rattle.section_flow.specs.Flow.{Edit}
 use Rattle.plug_psi.specs.CurrentTables.{current_in}
 use Rattle.plug_psi.specs.Edits.{Change, same, away}
+use Rattle.plug_psi.specs.InForce.{pat_of}
+use Rattle.plug_psi.specs.InUse.{EditAsMet}
 use Rattle.plug_psi.specs.NumbersHeld.{number_at}
 use Rattle.plug_psi.specs.TableChange.{changed_current, of_id}
+use Rattle.service_items.specs.ServiceItems.{edited_items}
+pub use Rattle.service_items.specs.StreamTables.{is_bat, stream_of}
 use Rattle.plug_service.specs.Services.{is_one}
 use Rattle.plug_service.specs.declared.kept.Kept.{Kept}
 use Rattle.plug_service.specs.declared.way.Way.{Way}
@@ -24,7 +28,7 @@ use Rattle.plug_service.specs.declared.way.Way.TheVariants.{Keep, Remove}
 -- whether the entries with a number stay
 abbrev pub stays : Way → List ℕ → ℕ → Bool
 stays (Keep kept) services id = is_one services id
-stays Remove services id = not (is_one services id)
+stays (Remove everywhere) services id = not (is_one services id)
 
 -- an entry of a PAT stays: the network entry, and those of services that stay
 abbrev pub entry_stays : Way → List ℕ → ItemHolding → Bool
@@ -59,25 +63,32 @@ edited_sdt way services run =
     changed_current sdt_page (of_id 0x42 (λ table. Some (with_items (service_stays way services) table)))
     (current_in (read_run sdt_page run))
 
--- whether a section has the head of a BAT
-abbrev pub is_head_of_bat : Option LongHead → Bool
-is_head_of_bat None = false
-is_head_of_bat (Some head) = nat_eq head.table_id 0x4A
-
--- whether a table is one with the table_id of a BAT, whether it reads or not
-abbrev pub is_bat : List (List ℕ) → Bool
-is_bat [] = false
-is_bat (section ∷ sections) = is_head_of_bat (head_of section)
-
 -- what is made of another table on PID 17 if services are kept: BATs are carried as they are, where they are kept too
 abbrev pub other_change : Kept → List (List ℕ) → Change
 other_change kept run = if kept.bat && is_bat run then same else away
 
+-- what is made of a NIT of the actual network, and of a BAT, if services are removed everywhere: they lose their items in the
+-- transport stream of this number, if there is one
+abbrev pub nit_change : List ℕ → Option ℕ → List (List ℕ) → Change
+nit_change services stream run =
+    changed_current nit_page (of_id 0x40 (edited_items services None stream)) (current_in (read_run nit_page run))
+
+abbrev pub bat_change : List ℕ → Option ℕ → List (List ℕ) → Change
+bat_change services stream run = changed_current bat_page (edited_items services None stream) (current_in (read_run bat_page run))
+
 -- What is made of a table on PID 17. If services are kept, current SDTs of the actual transport stream are carried, and no
--- other table that is not kept beside them.
-abbrev pub sdt_change : Way → List ℕ → List (List ℕ) → Change
-sdt_change (Keep kept) services run = if is_current_sdt run then edited_sdt (Keep kept) services run else other_change kept run
-sdt_change Remove services run = edited_sdt Remove services run
+-- other table that is not kept beside them. If services are removed everywhere, BATs lose them too.
+abbrev pub sdt_change : Way → List ℕ → Option ℕ → List (List ℕ) → Change
+sdt_change (Keep kept) services stream run = if is_current_sdt run then edited_sdt (Keep kept) services run else other_change kept run
+sdt_change (Remove everywhere) services stream run =
+    if everywhere && is_bat run then bat_change services stream run else edited_sdt (Remove everywhere) services run
+
+-- the same after packets of any PID, where the transport stream is that of the PAT in force
+abbrev pub nit_edit : List ℕ → EditAsMet
+nit_edit services met = nit_change services (stream_of (pat_of met))
+
+abbrev pub sdt_edit : Way → List ℕ → EditAsMet
+sdt_edit way services met = sdt_change way services (stream_of (pat_of met))
 
 -- whether a section is an EIT section of one of the services
 abbrev pub is_of_one : List ℕ → List ℕ → Bool
@@ -87,9 +98,18 @@ is_of_one services section = list_any (λ service. is_of_service service section
 abbrev pub kept_eit : List ℕ → List ℕ → Option (List ℕ)
 kept_eit services section = if is_of_one services section then Some section else None
 
+-- and if services are removed everywhere: those of the services go, and all others are given as they are
+abbrev pub others_eit : List ℕ → List ℕ → Option (List ℕ)
+others_eit services section = if is_of_one services section then None else Some section
+
+-- what becomes of a section on PID 18, where EIT sections are edited
+abbrev pub eit_change : Way → List ℕ → List ℕ → Option (List ℕ)
+eit_change (Keep kept) services section = kept_eit services section
+eit_change (Remove everywhere) services section = others_eit services section
+
 -- the same whatever packets were met
-abbrev pub eit_edit : List ℕ → Edit
-eit_edit services packets = kept_eit services
+abbrev pub eit_edit : Way → List ℕ → Edit
+eit_edit way services packets = eit_change way services
 
 -- a PMT that is there is carried as it is, if it is that of one of the services, and nothing else
 abbrev pub carried_if_one : List ℕ → Option TableHolding → Change

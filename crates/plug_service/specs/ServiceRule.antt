@@ -11,28 +11,31 @@ use Rattle.plugin_trait.specs.Actions.{action}
 use Rattle.plugin_trait.specs.Finding.{finds_none}
 use Rattle.plugin_trait.specs.SilentRule.{silent_rule}
 use Rattle.plug_psi.specs.EditedCycles.{replaced}
+use Rattle.plug_psi.specs.InUse.{replaced_as}
 use Rattle.section_flow.specs.Flow as flowing
 use Rattle.plug_service.specs.Actions.{edits_pmt, action_after}
 use Rattle.plug_service.specs.Presence.{finds_service}
-use Rattle.plug_service.specs.ServiceEdits.{eit_edit, pat_change, sdt_change, pmt_change}
+use Rattle.plug_service.specs.ServiceEdits.{eit_edit, nit_edit, pat_change, pmt_change, sdt_edit}
 use Rattle.plug_service.specs.declared.way.Way.{Way}
 use Rattle.plug_service.specs.declared.way.Way.TheVariants.{Keep, Remove}
 use Rattle.plug_service.specs.declared.action.Action.{Action}
-use Rattle.plug_service.specs.declared.action.Action.TheVariants.{EditPat, EditSdt, EditEit, EditPmt, Pass, Drop}
-use Rattle.plug_service.specs.declared.service_conf.ServiceConf.{ServiceConf}
+use Rattle.plug_service.specs.declared.action.Action.TheVariants.{EditPat, EditSdt, EditNit, EditEit, EditPmt, Pass, Drop}
+use Rattle.plug_service.specs.declared.svremove_conf.SvremoveConf.{SvremoveConf}
 use Rattle.plug_service.specs.declared.zap_conf.ZapConf.{ZapConf}
 
 -- Whether the packets of a PID are edited as those of PMTs at the last of some packets of any PID: a service that is kept has
 -- its PMT there. The packets on the PID for which this holds are those that the edit of PMTs takes. On
--- PID 0 and PID 17 all packets are taken, so are those on PID 18 if EIT sections are kept, and on PID 8191 none.
+-- PID 0 and PID 17 all packets are taken, so are those on PID 16 and PID 18 if NITs and EIT sections are edited, and on PID 8191
+-- none.
 abbrev pub is_edited : Way → List ℕ → ℕ → List (List ℕ) → Bool
 is_edited way services pid packets = edits_pmt (action_after way services packets pid)
 
 -- the packet in place of another, by what becomes of that one, after the packets before; none if it does not pass
 abbrev pub made_by : Way → List ℕ → Action → List (List ℕ) → List ℕ → Option (List ℕ)
 made_by way services EditPat before packet = Some (replaced 0 (pat_change way services) (packets_on 0 before) packet)
-made_by way services EditSdt before packet = Some (replaced 17 (sdt_change way services) (packets_on 17 before) packet)
-made_by way services EditEit before packet = Some (flowing.replaced 18 (eit_edit services) (packets_on 18 before) packet)
+made_by way services EditSdt before packet = Some (replaced_as 17 (sdt_edit way services) before packet)
+made_by way services EditNit before packet = Some (replaced_as 16 (nit_edit services) before packet)
+made_by way services EditEit before packet = Some (flowing.replaced 18 (eit_edit way services) (packets_on 18 before) packet)
 made_by way services EditPmt before packet =
     Some (replaced (pid_of packet) (pmt_change services) (taken_on (is_edited way services) (pid_of packet) before) packet)
 made_by way services Pass before packet = Some packet
@@ -56,5 +59,5 @@ abbrev pub zap_rule : ZapConf → PluginRule
 zap_rule conf = service_rule (Keep conf.kept) conf.service.services conf.service.stuffing
 
 -- the rule of `svremove`
-abbrev pub svremove_rule : ServiceConf → PluginRule
-svremove_rule conf = service_rule Remove conf.services conf.stuffing
+abbrev pub svremove_rule : SvremoveConf → PluginRule
+svremove_rule conf = service_rule (Remove conf.everywhere) conf.service.services conf.service.stuffing

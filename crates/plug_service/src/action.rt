@@ -5,9 +5,11 @@
 pub(crate) enum Action {
     /// They carry the edited PATs.
     EditPat,
-    /// They carry the edited SDTs.
+    /// They carry the edited SDTs and BATs.
     EditSdt,
-    /// They carry the EIT sections of the services alone.
+    /// They carry the edited NITs.
+    EditNit,
+    /// They carry the EIT sections of the services alone, or those of all others.
     EditEit,
     /// They carry the PMTs of the services alone.
     EditPmt,

@@ -74,9 +74,10 @@ fn action_by(
     let flag = flags.get_or(pid, false);
     match way {
         Way::Keep(kept) => edited_first(pid, kept_first(kept, pid, kept_action(of_pmt, flag, pid))),
-        Way::Remove => {
+        Way::Remove { everywhere } => {
             let is_shared = shared.get_or(pid, false);
-            edited_first(pid, removed_action(of_pmt, is_shared, flag, pid))
+            let other = removed_action(of_pmt, is_shared, flag, pid);
+            edited_first(pid, removed_first(everywhere, pid, other))
         }
     }
 }
@@ -107,6 +108,23 @@ fn kept_first(kept: Kept, pid: u16, other: Action) -> Action
     } else if kept.time && pid == TIME_PID {
         Action::Pass
     } else if kept.eit && pid == EIT_PID {
+        Action::EditEit
+    } else {
+        other
+    }
+}
+
+/// The action of packets on a PID whose tables are edited too if services are removed everywhere; on any other PID it is
+/// `other`.
+#[inline]
+fn removed_first(everywhere: bool, pid: u16, other: Action) -> Action
+    requires editable { IsEditable other pid }
+    ensures tells { result ≡ Actions.removed_first everywhere pid other }
+    ensures editable { IsEditable result pid }
+{
+    if everywhere && pid == NIT_PID {
+        Action::EditNit
+    } else if everywhere && pid == EIT_PID {
         Action::EditEit
     } else {
         other
@@ -192,7 +210,7 @@ fn pids_to_spare(
 {
     match way {
         Way::Keep(_) => Ok(Vec::new(alloc)),
-        Way::Remove => other_pids(alloc, force, services),
+        Way::Remove { .. } => other_pids(alloc, force, services),
     }
 }
 

@@ -36,10 +36,11 @@ macro_rules! stuffing_row {
 mod action;
 mod action_row;
 mod editors;
-mod eit_alone;
+mod eit_part;
 mod kept;
 mod kept_words;
 mod limits;
+mod nit_part;
 mod pat_part;
 mod pid_actions;
 mod pmt_alone;

@@ -102,7 +102,7 @@ impl ServiceFollower {
         };
         match self.actions.way {
             Way::Keep(_) => self.force.pmt(service).is_some(),
-            Way::Remove => true,
+            Way::Remove { .. } => true,
         }
     }
 }

@@ -90,7 +90,7 @@ impl ServiceSteps {
         }
         match self.way {
             Way::Keep(_) if force.pmt(service).is_none() => Some(Unedited::NoPmt(service)),
-            Way::Keep(_) | Way::Remove => None,
+            Way::Keep(_) | Way::Remove { .. } => None,
         }
     }
 

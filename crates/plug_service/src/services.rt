@@ -85,6 +85,6 @@ pub(crate) fn stays(way: Way, services: &ServiceList, id: u16) -> bool
 {
     match way {
         Way::Keep(_) => services.has(id),
-        Way::Remove => !services.has(id),
+        Way::Remove { .. } => !services.has(id),
     }
 }

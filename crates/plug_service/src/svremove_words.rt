@@ -10,7 +10,19 @@ use plugin_options::{
 use std::alloc::Global;
 
 // The options of `svremove`.
-static SVREMOVE: [OptionRow; 2] = [services_row!(), stuffing_row!()];
+static SVREMOVE: [OptionRow; 3] = [
+    services_row!(),
+    OptionRow {
+        word: OptionWord::Flag("everywhere"),
+        text: OptionText {
+            value: "",
+            meaning: "remove the services' EIT sections on PID 18 too, and their items in service_list and logical_channel descriptors (tags 65, 131, 136) of this transport stream, in the NIT of the actual network and in BATs; a descriptor that has no item then goes",
+            need: Need::Free,
+            beside: Beside::Any,
+        },
+    },
+    stuffing_row!(),
+];
 
 impl PluginSettings for SvremoveConf {
     ghost use Rattle.std.specs.Prelude.{refl};
@@ -28,14 +40,16 @@ impl PluginSettings for SvremoveConf {
 
     fn help() -> PluginHelp {
         PluginHelp {
-            usage: "-P svremove [--stuffing] N ..",
+            usage: "-P svremove [--everywhere] [--stuffing] N ..",
             rule: "The PAT and the SDT lose the services, and their PMTs are dropped with those of their PIDs above 31 that no other service has; all else passes. It is driven by the tables in force, so it follows a service whose PIDs change under a new version. Up to 62 services may be given, and one that is given twice counts once.",
         }
     }
 
     fn read(alloc: Global, found: &ParsedOptions) -> Result<SvremoveConf, Refusal> {
+        let service = service_settings(alloc, found)?;
         Ok(SvremoveConf {
-            service: service_settings(alloc, found)?,
+            service,
+            everywhere: found.has_flag("everywhere"),
         })
     }
 

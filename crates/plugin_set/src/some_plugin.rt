@@ -131,7 +131,7 @@ macro_rules! made_of {
             PluginConf::Time(conf) => made!(new_time($alloc,conf,$buffer), SomePlugin::Time),
             PluginConf::Eit(conf) => made!(new_eit($alloc,conf,$buffer), SomePlugin::Eit),
             PluginConf::Zap(conf) => made!(new_zap($alloc,conf,$buffer), SomePlugin::Zap),
-            PluginConf::Svremove(conf) => made!(new_svremove($alloc,&conf.service,$buffer), SomePlugin::Svremove),
+            PluginConf::Svremove(conf) => made!(new_svremove($alloc,conf,$buffer), SomePlugin::Svremove),
             PluginConf::Analyze(conf) => made!(Analyze::new($alloc,conf,$buffer), SomePlugin::Analyze),
             PluginConf::Info(conf) => made!(Info::new($alloc,conf,$buffer), SomePlugin::Info),
             PluginConf::Tables(conf) => made!(Tables::new($alloc,conf,$buffer), SomePlugin::Tables),

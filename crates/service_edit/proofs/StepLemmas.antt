@@ -60,8 +60,8 @@ finding service change met packet altered e f =
 
 -- an editor whose own edit makes the change asked for
 pub moved : (pid : ℕ) (own wanted : List (List ℕ) → Change) {contents : Contents} {cycle : CycleState} {counter : ℕ} {changed : Bool} {taken : List (List ℕ)} →
-    own ≡ wanted → Edits pid own contents cycle counter changed taken → Edits pid wanted contents cycle counter changed taken
-moved pid own wanted {contents} {cycle} {counter} {changed} {taken} e h = subst (λ w. Edits pid w contents cycle counter changed taken) e h
+    own ≡ wanted → Edits pid (λ s. own) own contents cycle counter changed taken → Edits pid (λ s. wanted) wanted contents cycle counter changed taken
+moved pid own wanted {contents} {cycle} {counter} {changed} {taken} e h = subst (λ w. Edits pid (λ s. w) w contents cycle counter changed taken) e h
 
 marked : (mark : ℕ) (history : List Cell) (cell : Cell) → mark ≤ length history → mark ≤ length (history ++ cell ∷ [])
 marked mark history cell h = omega (arith, h, length-append history (cell ∷ []))

@@ -5,7 +5,7 @@ ghost use Rattle.std.specs.Prelude.{[], IfOk};
 
 use crate::cells::{bytes_from, given, live};
 use crate::compared::{holds, same};
-use plug_service::{Kept, ServiceConf, ServiceList, ZapConf, new_svremove, new_zap};
+use plug_service::{Kept, ServiceConf, ServiceList, SvremoveConf, ZapConf, new_svremove, new_zap};
 use plugin_trait::Plugin;
 use std::alloc::{AllocError, Global};
 use std::process::Abort;
@@ -99,9 +99,13 @@ fn is_kept(rt: &impl Abort, cells: &[Cell]) {
 
 /// What is left where service 1 is taken out.
 fn without_it(alloc: Global) -> Result<Vec<Cell>, Fail> {
-    let conf = ServiceConf {
+    let service = ServiceConf {
         services: ServiceList::of(alloc, &[1])?,
         stuffing: true,
+    };
+    let conf = SvremoveConf {
+        service,
+        everywhere: false,
     };
     made_of_stream(alloc, new_svremove(alloc, &conf, 1))
 }

@@ -1,5 +1,6 @@
 //! The tables that packets of the rows on editors carry.
 use crate::event_tables::EventTable;
+use crate::listed_tables::ListedTable;
 use crate::named_tables::NamedTable;
 use crate::network_tables::NetworkTable;
 use crate::time_tables::TimeTable;
@@ -83,6 +84,8 @@ pub(crate) enum Carried {
     Named(NamedTable),
     /// One of a network or a bouquet, or an EIT section.
     Network(NetworkTable),
+    /// A NIT or a BAT that lists services.
+    Listed(ListedTable),
     /// An EIT section with events.
     Events(EventTable),
     /// One of times and running states, of the short form.
@@ -102,6 +105,7 @@ impl Carried {
             Carried::Events(_) => 18,
             Carried::Named(table) => table.pid(),
             Carried::Network(table) => table.pid(),
+            Carried::Listed(table) => table.pid(),
             Carried::Time(table) => table.pid(),
         }
     }
@@ -123,6 +127,7 @@ impl Carried {
             Carried::Named(table) => table.section(),
             Carried::Network(table) => table.section(),
             Carried::Events(table) => table.section(),
+            Carried::Listed(table) => table.section(),
             Carried::Time(table) => table.section(),
         }
     }

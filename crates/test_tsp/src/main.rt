@@ -18,6 +18,7 @@ mod end_rows;
 mod error_rows;
 mod event_tables;
 mod every_rows;
+mod everywhere_rows;
 mod failing_ends;
 mod failing_reads;
 mod failing_writes;
@@ -32,6 +33,7 @@ mod invalid_packets;
 mod keeping_gate;
 mod listed_calls;
 mod listed_desk;
+mod listed_tables;
 mod live_rows;
 mod long_pat;
 mod meeting_gate;
@@ -106,7 +108,7 @@ fn write_tables<R: Threads + Wait + Sync + AllocGlobal>(
 }
 
 /// All tables, in the order in which they are printed.
-fn tables() -> [&'static [Row]; 50] {
+fn tables() -> [&'static [Row]; 51] {
     [
         end_rows::rows(),
         plugin_rows::rows(),
@@ -115,6 +117,7 @@ fn tables() -> [&'static [Row]; 50] {
         plugin_rows::of_labels(),
         edit_rows::rows(),
         service_rows::rows(),
+        everywhere_rows::rows(),
         window_rows::rows(),
         stream_rows::rows(),
         eit_rows::rows(),

@@ -1,4 +1,4 @@
-use Rattle.std.proofs.Common.{◌≡◌, ◌+◌, ◌++◌, length, take, arith, length-append, length-take-le}
+use Rattle.std.proofs.Common.{◌+◌, ◌++◌, take, arith, length-append, length-take-le}
 use Rattle.cell_rows.specs.Cells.{cells_of}
 use Rattle.cell_rows.proofs.CellLemmas.{cells_long}
 use Rattle.test_plugins.proofs.applied.apply_one.Goals as goal
