@@ -43,6 +43,7 @@ PLUGINS = {
     "time": ["time --shift=-{many}", "time --shift=3600", "time --shift=0 --only-label 3"],
     "zap": ["zap {service}", "zap {service} --stuffing", "zap {service} 1 769", "zap {service} --keep nit,bat,eit,time"],
     "svremove": ["svremove {service}", "svremove {service} --stuffing", "svremove {service} 1 769", "svremove --everywhere {service}"],
+    "svrename": ["svrename {service} --id {many}", "svrename {service} --id 2 --name other", "svrename --provider other {service} --only-label 3"],
     "compact": ["compact --window {few}", "compact --window {many} --stuffing", "compact --window {few} --only-label 3"],
     "rmorphan": ["rmorphan --window {few}", "rmorphan --window {many} --stuffing", "rmorphan --window {few} --only-label 3"],
     "restuff": ["restuff --from 1500000 --to 1400000", "restuff --from 13536000 --to 13000000 --window {many}",

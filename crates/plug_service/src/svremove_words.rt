@@ -41,7 +41,7 @@ impl PluginSettings for SvremoveConf {
     fn help() -> PluginHelp {
         PluginHelp {
             usage: "-P svremove [--everywhere] [--stuffing] N ..",
-            rule: "The PAT and the SDT lose the services, and their PMTs are dropped with those of their PIDs above 31 that no other service has; all else passes. It is driven by the tables in force, so it follows a service whose PIDs change under a new version. Up to 62 services may be given, and one that is given twice counts once.",
+            rule: "The PAT and the SDT lose the services, and their PMTs are dropped with those of their PIDs above 31 that no other service has; with --everywhere the guide and the lists of NIT and BATs lose them too; all else passes. It is driven by the tables in force, so it follows a service whose PIDs change under a new version. Up to 62 services may be given, and one that is given twice counts once.",
         }
     }
 

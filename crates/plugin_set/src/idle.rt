@@ -38,6 +38,7 @@ pub(crate) fn why_idle(plugin: &SomePlugin) -> Result<Option<Idle>, AllocError> 
         SomePlugin::Nit(plugin) => idle_editor(plugin.steps.unedited()),
         SomePlugin::Zap(plugin) => idle_editor(Ok(plugin.steps.unedited())),
         SomePlugin::Svremove(plugin) => idle_editor(Ok(plugin.steps.unedited())),
+        SomePlugin::Svrename(plugin) => idle_editor(Ok(plugin.steps.unedited())),
         SomePlugin::Remap(plugin) => Ok(idle_remap(plugin)),
         SomePlugin::Inject(plugin) => Ok(idle_inject(plugin)),
         SomePlugin::Tables(plugin) => Ok(idle_tables(plugin)),

@@ -21,6 +21,7 @@ pub(crate) fn add_changes(plugin: &SomePlugin, changes: &mut Changes) -> Result<
         SomePlugin::Nit(plugin) => plugin.steps.add_changes(changes),
         SomePlugin::Zap(plugin) => plugin.steps.add_changes(changes),
         SomePlugin::Svremove(plugin) => plugin.steps.add_changes(changes),
+        SomePlugin::Svrename(plugin) => plugin.steps.add_changes(changes),
         SomePlugin::Remap(plugin) => plugin.steps.add_changes(changes),
         SomePlugin::Info(plugin) => plugin.add_changes(changes),
         SomePlugin::Tables(plugin) => plugin.add_changes(changes),

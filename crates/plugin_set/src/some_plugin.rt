@@ -18,6 +18,7 @@ use plug_move::{Remap, new_remap};
 use plug_pass::{Filter, Pattern, Skip, Slice, new_filter, new_pattern, new_skip, new_slice};
 use plug_pcr::Pcrverify;
 use plug_rate::Rate;
+use plug_rename::{Rename, new_rename};
 use plug_restuff::{Restuff, new_restuff};
 use plug_service::{Svremove, Zap, new_svremove, new_zap};
 use plug_tables::Tables;
@@ -52,6 +53,7 @@ pub(crate) enum SomePlugin {
     Eit(Eit),
     Zap(Zap),
     Svremove(Svremove),
+    Svrename(Rename),
     Analyze(Analyze),
     Info(Info),
     Tables(Tables),
@@ -86,6 +88,7 @@ macro_rules! each_plugin {
             SomePlugin::Eit($plugin) => $does,
             SomePlugin::Zap($plugin) => $does,
             SomePlugin::Svremove($plugin) => $does,
+            SomePlugin::Svrename($plugin) => $does,
             SomePlugin::Analyze($plugin) => $does,
             SomePlugin::Info($plugin) => $does,
             SomePlugin::Tables($plugin) => $does,
@@ -132,6 +135,7 @@ macro_rules! made_of {
             PluginConf::Eit(conf) => made!(new_eit($alloc,conf,$buffer), SomePlugin::Eit),
             PluginConf::Zap(conf) => made!(new_zap($alloc,conf,$buffer), SomePlugin::Zap),
             PluginConf::Svremove(conf) => made!(new_svremove($alloc,conf,$buffer), SomePlugin::Svremove),
+            PluginConf::Svrename(conf) => made!(new_rename($alloc,conf,$buffer), SomePlugin::Svrename),
             PluginConf::Analyze(conf) => made!(Analyze::new($alloc,conf,$buffer), SomePlugin::Analyze),
             PluginConf::Info(conf) => made!(Info::new($alloc,conf,$buffer), SomePlugin::Info),
             PluginConf::Tables(conf) => made!(Tables::new($alloc,conf,$buffer), SomePlugin::Tables),
@@ -170,7 +174,7 @@ impl SomePlugin {
 
 impl Plugin for SomePlugin {
     ghost use Rattle.std.specs.Prelude.{refl};
-    ghost use Rattle.plugin_set.specs.declared.some_plugin.SomePlugin.TheVariants.{Filter as MadeFilter, Skip as MadeSkip, Slice as MadeSlice, Pattern as MadePattern, Until as MadeUntil, Count as MadeCount, Continuity as MadeContinuity, Remap as MadeRemap, Inject as MadeInject, Pat as MadePat, Cat as MadeCat, Pmt as MadePmt, Sdt as MadeSdt, Nit as MadeNit, Time as MadeTime, Eit as MadeEit, Zap as MadeZap, Svremove as MadeSvremove, Analyze as MadeAnalyze, Info as MadeInfo, Tables as MadeTables, Compact as MadeCompact, Rmorphan as MadeRmorphan, Pcrverify as MadePcrverify, Timestamps as MadeTimestamps, Rate as MadeRate, Monitor as MadeMonitor, Restuff as MadeRestuff};
+    ghost use Rattle.plugin_set.specs.declared.some_plugin.SomePlugin.TheVariants.{Filter as MadeFilter, Skip as MadeSkip, Slice as MadeSlice, Pattern as MadePattern, Until as MadeUntil, Count as MadeCount, Continuity as MadeContinuity, Remap as MadeRemap, Inject as MadeInject, Pat as MadePat, Cat as MadeCat, Pmt as MadePmt, Sdt as MadeSdt, Nit as MadeNit, Time as MadeTime, Eit as MadeEit, Zap as MadeZap, Svremove as MadeSvremove, Svrename as MadeSvrename, Analyze as MadeAnalyze, Info as MadeInfo, Tables as MadeTables, Compact as MadeCompact, Rmorphan as MadeRmorphan, Pcrverify as MadePcrverify, Timestamps as MadeTimestamps, Rate as MadeRate, Monitor as MadeMonitor, Restuff as MadeRestuff};
 
     ghost rule = { elim [
       | MadeFilter p ↦ ⟦<Filter as Plugin>⟧.rule p
@@ -191,6 +195,7 @@ impl Plugin for SomePlugin {
       | MadeEit p ↦ ⟦<Eit as Plugin>⟧.rule p
       | MadeZap p ↦ ⟦<Zap as Plugin>⟧.rule p
       | MadeSvremove p ↦ ⟦<Svremove as Plugin>⟧.rule p
+      | MadeSvrename p ↦ ⟦<Rename as Plugin>⟧.rule p
       | MadeAnalyze p ↦ ⟦<Analyze as Plugin>⟧.rule p
       | MadeInfo p ↦ ⟦<Info as Plugin>⟧.rule p
       | MadeTables p ↦ ⟦<Tables as Plugin>⟧.rule p
@@ -222,6 +227,7 @@ impl Plugin for SomePlugin {
       | MadeEit p ↦ ⟦<Eit as Plugin>⟧.stands_for p
       | MadeZap p ↦ ⟦<Zap as Plugin>⟧.stands_for p
       | MadeSvremove p ↦ ⟦<Svremove as Plugin>⟧.stands_for p
+      | MadeSvrename p ↦ ⟦<Rename as Plugin>⟧.stands_for p
       | MadeAnalyze p ↦ ⟦<Analyze as Plugin>⟧.stands_for p
       | MadeInfo p ↦ ⟦<Info as Plugin>⟧.stands_for p
       | MadeTables p ↦ ⟦<Tables as Plugin>⟧.stands_for p
@@ -253,6 +259,7 @@ impl Plugin for SomePlugin {
       | MadeEit p ↦ ⟦<Eit as Plugin>⟧.preallocated p
       | MadeZap p ↦ ⟦<Zap as Plugin>⟧.preallocated p
       | MadeSvremove p ↦ ⟦<Svremove as Plugin>⟧.preallocated p
+      | MadeSvrename p ↦ ⟦<Rename as Plugin>⟧.preallocated p
       | MadeAnalyze p ↦ ⟦<Analyze as Plugin>⟧.preallocated p
       | MadeInfo p ↦ ⟦<Info as Plugin>⟧.preallocated p
       | MadeTables p ↦ ⟦<Tables as Plugin>⟧.preallocated p
@@ -284,6 +291,7 @@ impl Plugin for SomePlugin {
       | MadeEit p ↦ ⟦<Eit as Plugin>⟧.silent p
       | MadeZap p ↦ ⟦<Zap as Plugin>⟧.silent p
       | MadeSvremove p ↦ ⟦<Svremove as Plugin>⟧.silent p
+      | MadeSvrename p ↦ ⟦<Rename as Plugin>⟧.silent p
       | MadeAnalyze p ↦ ⟦<Analyze as Plugin>⟧.silent p
       | MadeInfo p ↦ ⟦<Info as Plugin>⟧.silent p
       | MadeTables p ↦ ⟦<Tables as Plugin>⟧.silent p
@@ -349,6 +357,7 @@ impl Plugin for SomePlugin {
       | MadeEit p ↦ λ history mark stands. refl
       | MadeZap p ↦ λ history mark stands. refl
       | MadeSvremove p ↦ λ history mark stands. refl
+      | MadeSvrename p ↦ λ history mark stands. refl
       | MadeAnalyze p ↦ λ history mark stands. refl
       | MadeInfo p ↦ λ history mark stands. refl
       | MadeTables p ↦ λ history mark stands. refl

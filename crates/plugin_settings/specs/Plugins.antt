@@ -23,6 +23,7 @@ use Rattle.plug_time.specs.TimeEntry.{time_entry}
 use Rattle.plug_eit.specs.EitEntry.{eit_entry}
 use Rattle.plug_service.specs.ZapEntry.{zap_entry}
 use Rattle.plug_service.specs.SvremoveEntry.{svremove_entry}
+use Rattle.plug_rename.specs.SvrenameEntry.{svrename_entry}
 use Rattle.plug_analyze.specs.AnalyzeEntry.{analyze_entry}
 use Rattle.plug_info.specs.InfoEntry.{info_entry}
 use Rattle.plug_tables.specs.TablesEntry.{tables_entry}
@@ -34,7 +35,7 @@ use Rattle.plug_rate.specs.RateEntry.{rate_entry}
 use Rattle.plug_monitor.specs.MonitorEntry.{monitor_entry}
 use Rattle.plug_restuff.specs.RestuffEntry.{restuff_entry}
 use Rattle.plugin_settings.specs.declared.plugin_conf.PluginConf.{PluginConf}
-use Rattle.plugin_settings.specs.declared.plugin_conf.PluginConf.TheVariants.{Filter, Skip, Slice, Pattern, Until, Count, Continuity, Remap, Inject, Pat, Cat, Pmt, Sdt, Nit, Time, Eit, Zap, Svremove, Analyze, Info, Tables, Compact, Rmorphan, Pcrverify, Timestamps, Rate, Monitor, Restuff}
+use Rattle.plugin_settings.specs.declared.plugin_conf.PluginConf.TheVariants.{Filter, Skip, Slice, Pattern, Until, Count, Continuity, Remap, Inject, Pat, Cat, Pmt, Sdt, Nit, Time, Eit, Zap, Svremove, Svrename, Analyze, Info, Tables, Compact, Rmorphan, Pcrverify, Timestamps, Rate, Monitor, Restuff}
 use Rattle.plugin_settings.specs.declared.plugin_conf.PluginKind.{PluginKind}
 use Rattle.plugin_settings.specs.declared.plugin_conf.PluginKind.TheVariants as kind
 
@@ -58,6 +59,7 @@ kinds = kind.Filter
     ∷ kind.Eit
     ∷ kind.Zap
     ∷ kind.Svremove
+    ∷ kind.Svrename
     ∷ kind.Analyze
     ∷ kind.Info
     ∷ kind.Tables
@@ -90,6 +92,7 @@ kind_entry kind.Time = of_kind Time time_entry
 kind_entry kind.Eit = of_kind Eit eit_entry
 kind_entry kind.Zap = of_kind Zap zap_entry
 kind_entry kind.Svremove = of_kind Svremove svremove_entry
+kind_entry kind.Svrename = of_kind Svrename svrename_entry
 kind_entry kind.Analyze = of_kind Analyze analyze_entry
 kind_entry kind.Info = of_kind Info info_entry
 kind_entry kind.Tables = of_kind Tables tables_entry
@@ -121,6 +124,7 @@ entry_of (Time conf) = of_conf kind.Time time_entry conf
 entry_of (Eit conf) = of_conf kind.Eit eit_entry conf
 entry_of (Zap conf) = of_conf kind.Zap zap_entry conf
 entry_of (Svremove conf) = of_conf kind.Svremove svremove_entry conf
+entry_of (Svrename conf) = of_conf kind.Svrename svrename_entry conf
 entry_of (Analyze conf) = of_conf kind.Analyze analyze_entry conf
 entry_of (Info conf) = of_conf kind.Info info_entry conf
 entry_of (Tables conf) = of_conf kind.Tables tables_entry conf

@@ -15,6 +15,7 @@ use plug_move::RemapConf;
 use plug_pass::{FilterConf, PatternConf, SkipConf, SliceConf};
 use plug_pcr::PcrverifyConf;
 use plug_rate::RateConf;
+use plug_rename::RenameConf;
 use plug_restuff::RestuffConf;
 use plug_service::{SvremoveConf, ZapConf};
 use plug_tables::TablesConf;
@@ -47,6 +48,7 @@ pub enum PluginConf {
     Eit(EitConf),
     Zap(ZapConf),
     Svremove(SvremoveConf),
+    Svrename(RenameConf),
     Analyze(AnalyzeConf),
     Info(InfoConf),
     Tables(TablesConf),
@@ -80,6 +82,7 @@ pub enum PluginKind {
     Eit,
     Zap,
     Svremove,
+    Svrename,
     Analyze,
     Info,
     Tables,
@@ -93,7 +96,7 @@ pub enum PluginKind {
 }
 
 /// All kinds, in the order in which help names them.
-pub(crate) static KINDS: [PluginKind; 28] = [
+pub(crate) static KINDS: [PluginKind; 29] = [
     PluginKind::Filter,
     PluginKind::Skip,
     PluginKind::Slice,
@@ -112,6 +115,7 @@ pub(crate) static KINDS: [PluginKind; 28] = [
     PluginKind::Eit,
     PluginKind::Zap,
     PluginKind::Svremove,
+    PluginKind::Svrename,
     PluginKind::Analyze,
     PluginKind::Info,
     PluginKind::Tables,
@@ -146,6 +150,7 @@ macro_rules! of_kind {
             PluginKind::Eit => <EitConf as PluginSettings>::$name($($given),*),
             PluginKind::Zap => <ZapConf as PluginSettings>::$name($($given),*),
             PluginKind::Svremove => <SvremoveConf as PluginSettings>::$name($($given),*),
+            PluginKind::Svrename => <RenameConf as PluginSettings>::$name($($given),*),
             PluginKind::Analyze => <AnalyzeConf as PluginSettings>::$name($($given),*),
             PluginKind::Info => <InfoConf as PluginSettings>::$name($($given),*),
             PluginKind::Tables => <TablesConf as PluginSettings>::$name($($given),*),
@@ -182,6 +187,7 @@ macro_rules! read_kind {
             PluginKind::Eit => <EitConf as PluginSettings>::read($alloc, $found).map(PluginConf::Eit),
             PluginKind::Zap => <ZapConf as PluginSettings>::read($alloc, $found).map(PluginConf::Zap),
             PluginKind::Svremove => <SvremoveConf as PluginSettings>::read($alloc, $found).map(PluginConf::Svremove),
+            PluginKind::Svrename => <RenameConf as PluginSettings>::read($alloc, $found).map(PluginConf::Svrename),
             PluginKind::Analyze => <AnalyzeConf as PluginSettings>::read($alloc, $found).map(PluginConf::Analyze),
             PluginKind::Info => <InfoConf as PluginSettings>::read($alloc, $found).map(PluginConf::Info),
             PluginKind::Tables => <TablesConf as PluginSettings>::read($alloc, $found).map(PluginConf::Tables),
@@ -218,6 +224,7 @@ macro_rules! each_conf {
             PluginConf::Eit($conf) => $does,
             PluginConf::Zap($conf) => $does,
             PluginConf::Svremove($conf) => $does,
+            PluginConf::Svrename($conf) => $does,
             PluginConf::Analyze($conf) => $does,
             PluginConf::Info($conf) => $does,
             PluginConf::Tables($conf) => $does,
@@ -270,6 +277,7 @@ impl PluginKind {
             PluginKind::Eit => false,
             PluginKind::Zap => false,
             PluginKind::Svremove => false,
+            PluginKind::Svrename => false,
             PluginKind::Analyze => true,
             PluginKind::Info => true,
             PluginKind::Tables => false,
@@ -325,6 +333,7 @@ impl PluginConf {
             PluginConf::Eit(_) => PluginKind::Eit,
             PluginConf::Zap(_) => PluginKind::Zap,
             PluginConf::Svremove(_) => PluginKind::Svremove,
+            PluginConf::Svrename(_) => PluginKind::Svrename,
             PluginConf::Analyze(_) => PluginKind::Analyze,
             PluginConf::Info(_) => PluginKind::Info,
             PluginConf::Tables(_) => PluginKind::Tables,

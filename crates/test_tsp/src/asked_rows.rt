@@ -127,7 +127,7 @@ pub(crate) fn of_faults() -> &'static [Row] {
     &FAULT_ROWS
 }
 
-static FAULT_ROWS: [Row; 32] = [
+static FAULT_ROWS: [Row; 34] = [
     row!(
         "a packet is missing",
         "--fail-on-faults -I file in -P continuity -O drop",
@@ -271,6 +271,16 @@ static FAULT_ROWS: [Row; 32] = [
     row!(
         "svremove removes its service",
         "--fail-on-faults -I testgen 1 100 -P svremove 1 -O drop",
+        Input::Pids(&[])
+    ),
+    row!(
+        "svrename finds no service",
+        "--fail-on-faults -I testgen 1 100 -P svrename 3 --id 4 -O drop",
+        Input::Pids(&[])
+    ),
+    row!(
+        "svrename renames its service",
+        "--fail-on-faults -I testgen 1 100 -P svrename 1 --id 4 -O drop",
         Input::Pids(&[])
     ),
     row!(

@@ -8,7 +8,7 @@ pub(crate) fn rows() -> &'static [Row] {
     &SERVICE_ROWS
 }
 
-static SERVICE_ROWS: [Row; 9] = [
+static SERVICE_ROWS: [Row; 13] = [
     Row {
         name: "zap leaves nothing of the other service",
         words: "-I testgen 1 1000 -P zap 1 -P count --pid 258-259,4097,8191 -O drop",
@@ -63,6 +63,30 @@ static SERVICE_ROWS: [Row; 9] = [
         input: Input::Pids(&[]),
         plan: ORDINARY,
     },
+    Row {
+        name: "the tables that svrename writes",
+        words: "-I testgen 1 10 -P svrename 1 --id 4242 --name First -O file out",
+        input: Input::Pids(&[]),
+        plan: ORDINARY,
+    },
+    Row {
+        name: "svrename without --id leaves all tables but the SDT",
+        words: "-I testgen 1 10 -P svrename 1 --name First -O file out",
+        input: Input::Pids(&[]),
+        plan: ORDINARY,
+    },
+    Row {
+        name: "svrename refuses the number of another service",
+        words: "-I testgen 1 10 -P svrename 1 --id 2 -O drop",
+        input: Input::Pids(&[]),
+        plan: ORDINARY,
+    },
+    Row {
+        name: "svrename takes the service's own number",
+        words: "-I testgen 1 1000 -P svrename 1 --id 1 -P count -O drop",
+        input: Input::Pids(&[]),
+        plan: ORDINARY,
+    },
 ];
 
 /// Words of these plugins that are no command line.
@@ -70,7 +94,7 @@ pub(crate) fn of_words() -> &'static [Row] {
     &SERVICE_WORD_ROWS
 }
 
-static SERVICE_WORD_ROWS: [Row; 4] = [
+static SERVICE_WORD_ROWS: [Row; 7] = [
     Row {
         name: "zap of no service",
         words: "-I null 2 -P zap -O drop",
@@ -92,6 +116,24 @@ static SERVICE_WORD_ROWS: [Row; 4] = [
     Row {
         name: "sixty-three services to take out",
         words: "-I null 2 -P svremove 1 2 3 4 5 6 7 8 9 10 11 12 13 14 15 16 17 18 19 20 21 22 23 24 25 26 27 28 29 30 31 32 33 34 35 36 37 38 39 40 41 42 43 44 45 46 47 48 49 50 51 52 53 54 55 56 57 58 59 60 61 62 63 -O drop",
+        input: Input::Pids(&[]),
+        plan: ORDINARY,
+    },
+    Row {
+        name: "svrename that changes nothing",
+        words: "-I null 2 -P svrename 1 -O drop",
+        input: Input::Pids(&[]),
+        plan: ORDINARY,
+    },
+    Row {
+        name: "svrename of no service with a number that is none",
+        words: "-I null 2 -P svrename --id 0 -O drop",
+        input: Input::Pids(&[]),
+        plan: ORDINARY,
+    },
+    Row {
+        name: "a new number that is none",
+        words: "-I null 2 -P svrename 1 --id 0 --name First -O drop",
         input: Input::Pids(&[]),
         plan: ORDINARY,
     },

@@ -104,10 +104,19 @@ fn refusal_text(
 ) -> Result<String, AllocError> {
     let mut text = plugin_text(alloc, plan, number)?;
     let pid = reason.pid();
-    write!(
-        text,
-        "PID {pid} has packets of its own: move to a PID that has none, or mix the packets of both by --unchecked\n"
-    )?;
+    match plugin_name(plan, number) {
+        "svrename" => text.push_str(
+            "another service of the PAT has the new number: take one that none has; -P info lists those that it has\n",
+        )?,
+        "restuff" => write!(
+            text,
+            "a packet of PID {pid} came, and as many wait as --window says: what is no null packet does not fit into --to\n"
+        )?,
+        _ => write!(
+            text,
+            "PID {pid} has packets of its own: move to a PID that has none, or mix the packets of both by --unchecked\n"
+        )?,
+    }
     Ok(text)
 }
 

@@ -109,6 +109,12 @@ agreed-requires-in-Svremove c = rw c.in-Svremove.is at c.requires
 pub returns-in-Svremove : goal.returns-in-Svremove
 returns-in-Svremove c = rw c.in-Svremove.is c.agreed-in-Svremove.ensures
 
+pub agreed-requires-in-Svrename : goal.agreed-requires-in-Svrename
+agreed-requires-in-Svrename c = rw c.in-Svrename.is at c.requires
+
+pub returns-in-Svrename : goal.returns-in-Svrename
+returns-in-Svrename c = rw c.in-Svrename.is c.agreed-in-Svrename.ensures
+
 pub agreed-requires-in-Analyze : goal.agreed-requires-in-Analyze
 agreed-requires-in-Analyze c = rw c.in-Analyze.is at c.requires
 

@@ -109,6 +109,12 @@ has_fault-requires-in-Svremove c = rw c.in-Svremove.is at c.requires
 pub returns-in-Svremove : goal.returns-in-Svremove
 returns-in-Svremove c = rw c.in-Svremove.is c.has_fault-in-Svremove.ensures
 
+pub has_fault-requires-in-Svrename : goal.has_fault-requires-in-Svrename
+has_fault-requires-in-Svrename c = rw c.in-Svrename.is at c.requires
+
+pub returns-in-Svrename : goal.returns-in-Svrename
+returns-in-Svrename c = rw c.in-Svrename.is c.has_fault-in-Svrename.ensures
+
 pub has_fault-requires-in-Analyze : goal.has_fault-requires-in-Analyze
 has_fault-requires-in-Analyze c = rw c.in-Analyze.is at c.requires
 

@@ -125,6 +125,12 @@ note-requires-in-Svremove c = rw c.in-Svremove.is at c.requires
 pub returns-in-Svremove : goal.returns-in-Svremove
 returns-in-Svremove c = rw c.in-Svremove.is c.note-in-Svremove.ensures
 
+pub note-requires-in-Svrename : goal.note-requires-in-Svrename
+note-requires-in-Svrename c = rw c.in-Svrename.is at c.requires
+
+pub returns-in-Svrename : goal.returns-in-Svrename
+returns-in-Svrename c = rw c.in-Svrename.is c.note-in-Svrename.ensures
+
 pub note-requires-in-Analyze : goal.note-requires-in-Analyze
 note-requires-in-Analyze c = rw c.in-Analyze.is at c.requires
 

@@ -110,6 +110,12 @@ pass_over-requires-in-Svremove c = rw c.in-Svremove.is at c.requires
 pub returns-in-Svremove : goal.returns-in-Svremove
 returns-in-Svremove c = rw c.in-Svremove.is c.pass_over-in-Svremove.ensures
 
+pub pass_over-requires-in-Svrename : goal.pass_over-requires-in-Svrename
+pass_over-requires-in-Svrename c = rw c.in-Svrename.is at c.requires
+
+pub returns-in-Svrename : goal.returns-in-Svrename
+returns-in-Svrename c = rw c.in-Svrename.is c.pass_over-in-Svrename.ensures
+
 pub pass_over-requires-in-Analyze : goal.pass_over-requires-in-Analyze
 pass_over-requires-in-Analyze c = rw c.in-Analyze.is at c.requires
 

@@ -124,6 +124,12 @@ step-requires-in-Svremove c = rw c.in-Svremove.is at c.requires
 pub returns-in-Svremove : goal.returns-in-Svremove
 returns-in-Svremove c = rw c.in-Svremove.is c.step-in-Svremove.ensures
 
+pub step-requires-in-Svrename : goal.step-requires-in-Svrename
+step-requires-in-Svrename c = rw c.in-Svrename.is at c.requires
+
+pub returns-in-Svrename : goal.returns-in-Svrename
+returns-in-Svrename c = rw c.in-Svrename.is c.step-in-Svrename.ensures
+
 pub step-requires-in-Analyze : goal.step-requires-in-Analyze
 step-requires-in-Analyze c = rw c.in-Analyze.is at c.requires
 

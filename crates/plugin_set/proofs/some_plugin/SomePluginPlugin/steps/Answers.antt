@@ -109,6 +109,12 @@ steps-requires-in-Svremove c = rw c.in-Svremove.is at c.requires
 pub returns-in-Svremove : goal.returns-in-Svremove
 returns-in-Svremove c = rw c.in-Svremove.is c.steps-in-Svremove.ensures
 
+pub steps-requires-in-Svrename : goal.steps-requires-in-Svrename
+steps-requires-in-Svrename c = rw c.in-Svrename.is at c.requires
+
+pub returns-in-Svrename : goal.returns-in-Svrename
+returns-in-Svrename c = rw c.in-Svrename.is c.steps-in-Svrename.ensures
+
 pub steps-requires-in-Analyze : goal.steps-requires-in-Analyze
 steps-requires-in-Analyze c = rw c.in-Analyze.is at c.requires
 

@@ -109,6 +109,12 @@ summary-requires-in-Svremove c = rw c.in-Svremove.is at c.requires
 pub returns-in-Svremove : goal.returns-in-Svremove
 returns-in-Svremove c = rw c.in-Svremove.is c.summary-in-Svremove.ensures
 
+pub summary-requires-in-Svrename : goal.summary-requires-in-Svrename
+summary-requires-in-Svrename c = rw c.in-Svrename.is at c.requires
+
+pub returns-in-Svrename : goal.returns-in-Svrename
+returns-in-Svrename c = rw c.in-Svrename.is c.summary-in-Svrename.ensures
+
 pub summary-requires-in-Analyze : goal.summary-requires-in-Analyze
 summary-requires-in-Analyze c = rw c.in-Analyze.is at c.requires
 

@@ -55,6 +55,9 @@ returns-in-Zap c = rw c.in-Zap.is c.table_file-in-Zap.ensures
 pub returns-in-Svremove : goal.returns-in-Svremove
 returns-in-Svremove c = rw c.in-Svremove.is c.table_file-in-Svremove.ensures
 
+pub returns-in-Svrename : goal.returns-in-Svrename
+returns-in-Svrename c = rw c.in-Svrename.is c.table_file-in-Svrename.ensures
+
 pub returns-in-Analyze : goal.returns-in-Analyze
 returns-in-Analyze c = rw c.in-Analyze.is c.table_file-in-Analyze.ensures
 

@@ -17,6 +17,7 @@ use Rattle.plug_time.specs.TimeEntry.{time_entry}
 use Rattle.plug_eit.specs.EitEntry.{eit_entry}
 use Rattle.plug_service.specs.ZapEntry.{zap_entry}
 use Rattle.plug_service.specs.SvremoveEntry.{svremove_entry}
+use Rattle.plug_rename.specs.SvrenameEntry.{svrename_entry}
 use Rattle.plug_analyze.specs.AnalyzeEntry.{analyze_entry}
 use Rattle.plug_info.specs.InfoEntry.{info_entry}
 use Rattle.plug_tables.specs.TablesEntry.{tables_entry}
@@ -139,6 +140,12 @@ returns-in-Svremove-clause-reads c = rw c.in-Svremove.is (read_into conf.Svremov
 
 pub returns-in-Svremove-clause-valid : goal.returns-in-Svremove-clause-valid
 returns-in-Svremove-clause-valid c = made conf.Svremove _ IsValid _ _ c.map-in-Svremove.ensures.cases (λ _ p. p) c.read-in-Svremove.ensures.valid
+
+pub returns-in-Svrename-clause-reads : goal.returns-in-Svrename-clause-reads
+returns-in-Svrename-clause-reads c = rw c.in-Svrename.is (read_into conf.Svrename svrename_entry.options c.args.found.now _ _ c.map-in-Svrename.ensures.cases c.read-in-Svrename.ensures.reads)
+
+pub returns-in-Svrename-clause-valid : goal.returns-in-Svrename-clause-valid
+returns-in-Svrename-clause-valid c = made conf.Svrename _ IsValid _ _ c.map-in-Svrename.ensures.cases (λ _ p. p) c.read-in-Svrename.ensures.valid
 
 pub returns-in-Analyze-clause-reads : goal.returns-in-Analyze-clause-reads
 returns-in-Analyze-clause-reads c = rw c.in-Analyze.is (read_into conf.Analyze analyze_entry.options c.args.found.now _ _ c.map-in-Analyze.ensures.cases c.read-in-Analyze.ensures.reads)
