@@ -108,13 +108,12 @@ counted-same n m top same few = omega arith
 number-past : (all number later given begun : ℕ) → 188 * all ≡ given + (begun + 188 * later) → number + later ≡ all → given ≤ 188 * number
 number-past all number later given begun sizes same = omega arith
 
-pub kept-from : (form : Form) (due tail : ℕ) (near : Bool) (left number : ℕ) (bytes file given : List ℕ) (gaps : List Gap) → length file < 2 ^ 63
+pub behind-from : (form : Form) (due tail : ℕ) (near : Bool) (left number : ℕ) (bytes file given : List ℕ) → length file < 2 ^ 63
     → (found_in form file).bytes ≡ given ++ (coming_from form due tail near left number bytes).bytes
     → (found_in form file).packets ≡ (coming_from form due tail near left number bytes).packets
-    → (found_in form file).gaps ≡ gaps ++ (coming_from form due tail near left number bytes).gaps
-    → KeptOf form file given gaps
+    → AllByRecursion (λ (gap : Gap). length given ≤ 188 * gap.before) (coming_from form due tail near left number bytes).gaps
 unfolding coming_from search
-kept-from form due tail near left number bytes file given gaps small bytes_are packets_are gaps_are =
+behind-from form due tail near left number bytes file given small bytes_are packets_are =
     let all : List Found = (search_from form 0 true 0 file).found in
     let later : List Found = (search_from form 0 near left (drop (due + tail) bytes)).found in
     let long : length (concat (packets_in all)) ≡ 188 * length all = found-long form true 0 file in
@@ -129,12 +128,20 @@ kept-from form due tail near left number bytes file given gaps small bytes_are p
     let same : number + length later ≡ length all = counted-same (length all) (number + length later) count_end packets_are few in
     let past : length given ≤ 188 * number = number-past (length all) number (length later) (length given) (length begun) sizes same in
     let known : number ≤ count_end = omega arith in
+    all-weaker (λ (gap : Gap). number ≤ gap.before) (λ (gap : Gap). length given ≤ 188 * gap.before) (gaps_from number later)
+    (λ gap more. omega arith)
+    (gaps-from-on number number later (let e : counted number ≡ number = counted-small number known in omega arith))
+
+kept-from : (form : Form) (due tail : ℕ) (near : Bool) (left number : ℕ) (bytes file given : List ℕ) (gaps : List Gap) → length file < 2 ^ 63
+    → (found_in form file).bytes ≡ given ++ (coming_from form due tail near left number bytes).bytes
+    → (found_in form file).packets ≡ (coming_from form due tail near left number bytes).packets
+    → (found_in form file).gaps ≡ gaps ++ (coming_from form due tail near left number bytes).gaps
+    → KeptOf form file given gaps
+kept-from form due tail near left number bytes file given gaps small bytes_are packets_are gaps_are =
     record {
-      later = gaps_from number later;
+      later = (coming_from form due tail near left number bytes).gaps;
       all_are = gaps_are;
-      behind = all-weaker (λ (gap : Gap). number ≤ gap.before) (λ (gap : Gap). length given ≤ 188 * gap.before) (gaps_from number later)
-          (λ gap more. omega arith)
-          (gaps-from-on number number later (let e : counted number ≡ number = counted-small number known in omega arith));
+      behind = behind-from form due tail near left number bytes file given small bytes_are packets_are;
     }
 
 -- where the file is told

@@ -4,6 +4,7 @@ use Rattle.search_source.specs.Gaps.{counted}
 use Rattle.search_source.specs.Kept.{KeptTo}
 use Rattle.search_source.specs.SearchView.{search_view}
 use Rattle.search_source.proofs.Kept.{keeps-last}
+use Rattle.search_source.proofs.SinceLemmas.{all-kept}
 use Rattle.search_source.proofs.noted_source.NotedSource.into_parts.Goals as goal
 
 pub returns-clause-kept : goal.returns-clause-kept
@@ -33,7 +34,7 @@ returns-clause-kept g c =
             keeps-last c.args.self.gaps.items (option_to_list f.noted) c.keep-kept.new.gaps.items
             (λ rest. coming_from f.form f.due f.tail f.near f.left f.number (hand_of f ++ rest)) (g.S.Source.seen source.source).left _
             (c.keep-kept.ensures (c.is_lost.ensures lost).1 ∙ ap (λ noted. c.args.self.gaps.items ++ option_to_list noted) c.gap-noted.ensures)
-            (c.args.self.kept (c.is_lost.ensures lost).0);
+            (all-kept c.args.self.from c.args.self.gaps.items _ _ (c.is_lost.ensures lost).2 (c.args.self.kept (c.is_lost.ensures lost).0));
       };
       number_is = sym c.number-number.ensures;
       behind_is = ap counted (sym c.behind-behind.ensures.left) ∙ c.behind-behind.ensures.counted;
