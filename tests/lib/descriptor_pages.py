@@ -12,14 +12,14 @@ import time
 TOP = pathlib.Path(__file__).resolve().parents[2]
 
 Row = collections.namedtuple("Row", "name kind count")
-Page = collections.namedtuple("Page", "tag name front item each back groups extension", defaults=((), None))
+Page = collections.namedtuple("Page", "tag name front item each back groups extension form", defaults=((), None, None))
 Group = collections.namedtuple("Group", "name values rows")
 
 # The tag of extension descriptors: the first byte of their bodies is the tag of an extension, which is that of their pages.
 EXTENSION = 0x7F
 
 # Where `back` is None the items, if there are any, go up to the end. A group's rows are there where the field of its name is one of
-# its values; where it has no name, they always are.
+# its values; where it has no name, they always are. Items that have groups, or items in them, are pages themselves, `form`.
 
 
 class Unsure(Exception):
@@ -72,7 +72,36 @@ def page_of(line):
     return page._replace(extension=int(extension, 16)) if extension else page
 
 
+def parts_of(fields):
+    """The parts between semicolons that are in no parentheses."""
+    parts, depth = [""], 0
+    for letter in fields:
+        depth += (letter == "(") - (letter == ")")
+        if letter == ";" and depth == 0:
+            parts.append("")
+        else:
+            parts[-1] += letter
+    return [part.strip() for part in parts if part.strip()]
+
+
+def formed_page(tag, name, fields):
+    """A page whose items have groups, or items in them; None where it is no such page."""
+    *front, last = parts_of(fields) or [""]
+    loop = re.fullmatch(r"each `(\w+)`: \((.*)\)", last)
+    if not loop or "`" not in loop[2]:
+        return None
+    *rest, inner = parts_of(loop[2])
+    counted = re.fullmatch(r"counted `(\w+)`: \((.*)\)", inner)
+    own = page_by(None, loop[1], "; ".join(rest if counted else [*rest, inner]))
+    if counted:
+        own = own._replace(item=counted[1], each=rows_of(counted[2]), back=[])
+    return Page(tag, name, rows_of("; ".join(front)), None, None, None, (), None, own)
+
+
 def page_by(tag, name, fields):
+    formed = formed_page(tag, name, fields)
+    if formed:
+        return formed
     if "if `" in fields:
         return grouped_page(tag, name, fields)
     loop = re.search(r"(each|counted) `(\w+)`: \((.*?)\)", fields)
@@ -196,19 +225,29 @@ def with_texts(element):
             for name, value in element.items()}
 
 
+def element_of(page, bits):
+    """The element of the bits in front that are of the page; it has bytes where there are texts."""
+    element = {"#name": page.name, **values_of(page.front, bits)}
+    for group in page.groups:
+        if is_there(group, element):
+            element.update(values_of(group.rows, bits))
+    if page.form:
+        element["#nodes"] = []
+        while bits.left:
+            element["#nodes"].append(element_of(page.form, bits))
+    elif page.item and page.back is None:
+        element["#nodes"] = items_of(page, bits)
+    elif page.item:
+        element["#nodes"] = items_of(page, Bits(bits.data(bits.number(8))))
+        element.update(values_of(page.back, bits))
+    return element
+
+
 def shown(page, body):
     """The element of a body; None where it is not of the page."""
     bits = Bits(body if page.extension is None else body[1:])
     try:
-        element = {"#name": page.name, **values_of(page.front, bits)}
-        if page.item and page.back is None:
-            element["#nodes"] = items_of(page, bits)
-        elif page.item:
-            element["#nodes"] = items_of(page, Bits(bits.data(bits.number(8))))
-            element.update(values_of(page.back, bits))
-        for group in page.groups:
-            if is_there(group, element):
-                element.update(values_of(group.rows, bits))
+        element = element_of(page, bits)
         if bits.left:
             return None
     except Outside:
@@ -262,16 +301,23 @@ def bytes_of(bits):
     return int("1" + bits, 2).to_bytes(len(bits) // 8 + 1, "big")[1:]
 
 
-def drawn(chance, page):
-    """A body of the page, of at most 255 bytes."""
+def drawn_bits(chance, page):
+    """The bits of an element of the page."""
     bits = drawn_rows(chance, page.front)
-    if page.item:
-        items = "".join(drawn_rows(chance, page.each) for _ in range(chance.randrange(4)))
-        bits += items if page.back is None else f"{len(items) // 8:08b}" + items + drawn_rows(chance, page.back)
     if page.groups:
         front = values_of(page.front, Bits(bytes_of(bits)))
         bits += "".join(drawn_rows(chance, group.rows) for group in page.groups if is_there(group, front))
-    return (b"" if page.extension is None else bytes([page.extension])) + bytes_of(bits)
+    if page.form:
+        bits += "".join(drawn_bits(chance, page.form) for _ in range(chance.randrange(4)))
+    if page.item:
+        items = "".join(drawn_rows(chance, page.each) for _ in range(chance.randrange(4)))
+        bits += items if page.back is None else f"{len(items) // 8:08b}" + items + drawn_rows(chance, page.back)
+    return bits
+
+
+def drawn(chance, page):
+    """A body of the page, of at most 255 bytes."""
+    return (b"" if page.extension is None else bytes([page.extension])) + bytes_of(drawn_bits(chance, page))
 
 
 def spoiled(chance, body):

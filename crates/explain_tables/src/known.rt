@@ -4,9 +4,10 @@ use std::alloc::AllocError;
 use ts_charsets::all_text_tables;
 use ts_fields::{Field, Kind, Layout};
 use ts_groups::FieldGroup;
+use ts_item_forms::ItemForm;
 use ts_json_tables::{short_layout_named, tot_fields};
 use ts_shown_pages::{
-    extension_groups_of, extension_named, extension_of, groups_of, layout_named, layout_of,
+    extension_groups_of, extension_named, extension_of, form_of, groups_of, layout_named, layout_of,
 };
 use ts_table_pages::{
     bat_layout, cat_layout, eit_layout, nit_layout, pat_layout, pmt_layout, sdt_layout,
@@ -82,23 +83,54 @@ fn page_named(name: &str) -> Option<&'static Layout> {
     }
 }
 
-// The rows of an element that is an item of a table or of a descriptor.
-fn item_rows(parent: &str, name: &str) -> &'static [Field] {
-    if let Some(table) = table_named(parent) {
-        if let Some(items) = table.items {
-            if items.name == name {
-                return items.rows;
-            }
-        }
+// The form of the items of a descriptor, whose first fields say which others they have, or which have items in them.
+fn form_named(name: &str) -> Option<&'static ItemForm> {
+    match layout_named(name) {
+        Some(page) => form_of(page.tag),
+        None => None,
     }
-    if let Some(page) = page_named(parent) {
-        if let Some(items) = page.items {
-            if items.name == name {
+}
+
+// The form of the element of this name, where it is such an item.
+fn form_at(name: &str, parent: &str) -> Option<&'static ItemForm> {
+    match form_named(parent) {
+        Some(form) if form.name == name => Some(form),
+        _ => None,
+    }
+}
+
+// The rows of an element that is an item of a descriptor with such items, or an item in one of them.
+fn formed_rows(place: Place<'_>) -> &'static [Field] {
+    if let Some(form) = form_at(place.name, place.parent) {
+        return form.head;
+    }
+    if let Some(form) = form_at(place.parent, place.above) {
+        if let Some(items) = form.inner {
+            if items.name == place.name {
                 return items.rows;
             }
         }
     }
     &[]
+}
+
+// The rows of an element that is an item of a table or of a descriptor.
+fn item_rows(place: Place<'_>) -> &'static [Field] {
+    if let Some(table) = table_named(place.parent) {
+        if let Some(items) = table.items {
+            if items.name == place.name {
+                return items.rows;
+            }
+        }
+    }
+    if let Some(page) = page_named(place.parent) {
+        if let Some(items) = page.items {
+            if items.name == place.name {
+                return items.rows;
+            }
+        }
+    }
+    formed_rows(place)
 }
 
 // The rows of an element, in two parts.
@@ -111,12 +143,15 @@ fn rows_of(place: Place<'_>) -> (&'static [Field], &'static [Field]) {
     }
     match page_named(place.name) {
         Some(page) => (page.head, &[]),
-        None => (item_rows(place.parent, place.name), &[]),
+        None => (item_rows(place), &[]),
     }
 }
 
-// The groups of further fields of a descriptor, which are there by the values of others.
+// The groups of further fields of a descriptor or of an item of one, which are there by the values of others.
 fn groups_at(place: Place<'_>) -> &'static [FieldGroup] {
+    if let Some(form) = form_at(place.name, place.parent) {
+        return form.groups;
+    }
     let groups = if let Some(page) = layout_named(place.name) {
         groups_of(page.tag)
     } else if let Some(page) = extension_named(place.name) {
@@ -210,8 +245,8 @@ fn may_have_descriptors(place: Place<'_>) -> bool {
     }
 }
 
-// The name of the items that may be in an element; nothing where none may.
-fn item_name(parent: &str) -> &'static str {
+// The name of the items that may be in an element, which is in the one of another name; nothing where none may.
+fn item_name(parent: &str, above: &str) -> &'static str {
     if let Some(table) = table_named(parent) {
         if let Some(items) = table.items {
             return items.name;
@@ -222,7 +257,16 @@ fn item_name(parent: &str) -> &'static str {
             return items.name;
         }
     }
-    ""
+    if let Some(form) = form_named(parent) {
+        return form.name;
+    }
+    match form_at(parent, above) {
+        Some(form) => match form.inner {
+            Some(items) => items.name,
+            None => "",
+        },
+        None => "",
+    }
 }
 
 // Puts the names of descriptors, those of extension descriptors last.
@@ -248,7 +292,7 @@ pub(crate) fn put_known_elements(text: &mut String, place: Place<'_>) -> Result<
             "known here: PAT CAT PMT NIT BAT SDT EIT TDT RST TOT generic_short_table generic_long_table\n",
         );
     }
-    let item = item_name(place.parent);
+    let item = item_name(place.parent, place.above);
     let described = may_have_descriptors(place);
     if item.is_empty() && !described {
         return Ok(());

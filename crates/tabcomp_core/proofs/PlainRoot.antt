@@ -12,9 +12,9 @@ use Rattle.tabcomp_core.specs.Decompiling.{root_shown}
 -- what the layer below ensures of the element of a table
 pub record TablesPlain : Type 0 where
   pub whole : (t : TableValue) → has_float (table_shown t) ≡ false
-  pub shallow : (t : TableValue) → depth (table_shown t) ≤ 7
+  pub shallow : (t : TableValue) → depth (table_shown t) ≤ 9
 
-items_shallow : TablesPlain → (ts : List TableValue) → items_depth (items_of (map table_shown ts)) ≤ 7
+items_shallow : TablesPlain → (ts : List TableValue) → items_depth (items_of (map table_shown ts)) ≤ 9
 items_shallow law [] = omega arith
 items_shallow law (t ∷ ts) = omega (arith, law.shallow t, items_shallow law ts)
 

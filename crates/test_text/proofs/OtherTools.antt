@@ -12,6 +12,7 @@ use Rattle.ts_days.specs.TimeTexts.{start_text, time_text}
 use Rattle.ts_fields.specs.Times.{is_pair, is_start, is_time}
 use Rattle.ts_fields.specs.Reading.{read_number, read_bytes, read_decimal, read_rest, read_field, read_rows}
 use Rattle.ts_groups.specs.Groups.{read_grouped}
+use Rattle.ts_item_forms.specs.ItemForms.{read_each, read_formed, read_item}
 use Rattle.ts_jtree.proofs.OnLiterals.{shown_on_literals}
 use Rattle.ts_json_descr.specs.DescrElements.{descr_shown}
 use Rattle.ts_shown_pages.specs.Pages.{second_quarter, third_quarter, last_quarter}
@@ -351,6 +352,12 @@ ancillary-data-row : compact_text (descr_shown (record { tag = 0x6B; body = 0xD5
     ≡ codes "{\"#name\":\"ancillary_data_descriptor\",\"ancillary_data_identifier\":213}"
 unfolding bits number_of read_number read_bytes read_decimal read_rest read_field read_rows read_page read_after read_items read_loop second_quarter third_quarter last_quarter shown_on_literals
 ancillary-data-row = refl
+
+-- 0x6E, of biTStream
+announcement-support-row : compact_text (descr_shown (record { tag = 0x6E; body = 0xFF ∷ 0x3D ∷ 0x08 ∷ 0x39 ∷ 0x11 ∷ 0x22 ∷ 0x33 ∷ 0x44 ∷ 0x55 ∷ 0x66 ∷ 0x77 ∷ 0x58 ∷ 0x2B ∷ 0x66 ∷ 0x77 ∷ 0x88 ∷ 0x99 ∷ 0x44 ∷ 0x55 ∷ 0x88 ∷ 0x48 ∷ [] }))
+    ≡ codes "{\"#name\":\"announcement_support_descriptor\",\"#nodes\":[{\"#name\":\"announcement\",\"announcement_type\":0,\"reference_type\":0},{\"#name\":\"announcement\",\"announcement_type\":3,\"component_tag\":119,\"original_network_id\":4386,\"reference_type\":1,\"service_id\":21862,\"transport_stream_id\":13124},{\"#name\":\"announcement\",\"announcement_type\":5,\"reference_type\":0},{\"#name\":\"announcement\",\"announcement_type\":2,\"component_tag\":136,\"original_network_id\":26231,\"reference_type\":3,\"service_id\":17493,\"transport_stream_id\":34969},{\"#name\":\"announcement\",\"announcement_type\":4,\"reference_type\":0}],\"announcement_support_indicator\":65341}"
+unfolding bits number_of read_number read_bytes read_decimal read_rest read_field read_rows read_item read_each read_formed second_quarter third_quarter last_quarter shown_on_literals
+announcement-support-row = refl
 
 -- 0x7A, of biTStream
 enhanced-ac3-row : compact_text (descr_shown (record { tag = 0x7A; body = 0xFF ∷ 0x0A ∷ 0x14 ∷ 0x1E ∷ 0x28 ∷ 0x32 ∷ 0x3C ∷ 0x46 ∷ [] }))

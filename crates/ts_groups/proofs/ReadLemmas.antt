@@ -95,6 +95,13 @@ first_are_read (r ∷ rs) b from y all =
     let inner = first_are_read rs b v.1 more had in
     ((option_to_list v.0 ++ inner.0.0, inner.0.1), rw (was, inner.1) refl)))
 
+-- both
+pub front_first : (a b : List Row) (from : List Bool) (y : List Held × List Bool) → read_rows (a ++ b) from ≡ Some y
+    → (x : List Held × List Bool) × (read_rows a from ≡ Some x) × (take (held_by a) y.0 ≡ x.0)
+front_first a b from y all =
+    let front = first_are_read a b from y all in
+    (front.0, front.1, first_values a b from front.0 y front.1 all)
+
 -- the rows of a page of fields alone were read
 alone_is_read : (p : Page) (rs : List Row) (from : List Bool) (h : Holding) → read_page (fields_alone p rs) from ≡ Some h
     → (y : List Held × List Bool) × (read_rows rs from ≡ Some y) × (y.0 ≡ h.head)

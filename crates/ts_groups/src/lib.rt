@@ -9,4 +9,7 @@ mod groups_laws;
 
 pub use group::{Condition, FieldGroup, chosen_rows};
 pub use grouped::{GroupedBody, read_grouped, write_fields};
-pub use groups_laws::{chosen_page_is_sound, grouped_is_read, grouped_is_written};
+pub use groups_laws::{
+    chosen_page_is_exact, chosen_page_is_sound, front_is_read_first, grouped_is_read,
+    grouped_is_written,
+};

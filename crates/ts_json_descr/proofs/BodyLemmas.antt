@@ -1,15 +1,17 @@
 -- What is read from an element has the shape that its rows ask for, and how large it is.
 use Rattle.std.proofs.Common.{◌≡◌, ℕ, ◌+◌, ◌*◌, ◌<◌, ◌≤◌, Bool, true, false, List, [], ◌∷◌, ◌++◌, length, refl, sym, ap, ◌∙◌, arith, append-nil}
-use Rattle.std.specs.Prelude.{Option, Some, None, Ok, Err, option_to_list, nat_lt, nat_le, ◌&&◌, if◌then◌else◌}
+use Rattle.std.specs.Prelude.{IsTrue, Option, Some, None, Ok, Err, option_to_list, nat_lt, nat_le, ◌&&◌, if◌then◌else◌}
+use Rattle.std.specs.List.{list_all}
 use Rattle.std.proofs.lemmas.Bool.{lt-ltb, leb-true}
 use Rattle.serde_json.specs.Data.{Data, Items, no_items, item, Members}
 use Rattle.serde_json.specs.Find.{get_member}
 use Rattle.ts_fields.specs.Bits.{bits_of}
-use Rattle.ts_fields.specs.Bodies.{Page, Holding, all_shaped, items_shaped, page_shaped, spell_page}
+use Rattle.ts_fields.specs.Bodies.{Page, Holding, all_shaped, items_shaped, page_shaped, page_sound, spell_page}
 use Rattle.ts_fields.specs.Fitting.{shaped}
 use Rattle.ts_fields.specs.Layout.{Row, Held, number, bytes}
 use Rattle.ts_fields.specs.Spelling.{spell_rows}
 use Rattle.ts_groups.specs.Groups.{fields_alone, values_alone}
+use Rattle.ts_item_forms.specs.ItemForms.{Form, FormedHolding, form_sound, formed_shaped, is_writable, page_by, spell_formed}
 use Rattle.ts_jtree.specs.declared.fault.JsonKind.TheVariants.{OutOfRange}
 use Rattle.ts_jtree.specs.declared.fault.JsonFault.{JsonFault}
 use Rattle.ts_jtree.specs.Attributes.{attribute_of, data_attribute, hex_attribute, holds_bytes, holds_number, number_at, number_attribute, number_in, read_attributes, within}
@@ -17,7 +19,7 @@ use Rattle.ts_jtree.specs.Elements.{keys_known, members_of, name_key, name_of, n
 use Rattle.ts_jtree.specs.Faults.{at_child, or_refuse, refuse, ◌>>=◌}
 use Rattle.ts_jtree.specs.Numbers.{number_of}
 use Rattle.ts_json_descr.specs.DescrElements.{generic_page, generic_rows}
-use Rattle.ts_json_descr.specs.DescrReading.{are_tagged, read_children, read_holding, read_item, read_items, read_typed, sized}
+use Rattle.ts_json_descr.specs.DescrReading.{are_tagged, read_children, read_formed, read_formed_holding, read_formed_item, read_formed_items, read_holding, read_item, read_items, read_typed, sized}
 use Rattle.ts_json_descr.proofs.StepLemmas.{both, child_ok, not_more, same_ok, then_ok}
 
 -- what the law of attributes says, by the contract of the crate below
@@ -79,6 +81,52 @@ pub fields_shaped : Shapes → (p : Page) (rs : List Row) (ms : Members) (values
     → read_holding (fields_alone p rs) ms ≡ Ok (values_alone values) → shaped rs values ≡ true
 fields_shaped shapes p rs ms values is =
     (both (shaped rs values) true (holding_shaped shapes (fields_alone p rs) ms (values_alone values) is)).0
+
+-- ---- items of a form
+
+-- what the law of items says, by the contract of the crate below
+abbrev pub ItemSound : Type 0
+ItemSound = (f : Form) (front : List Held) → IsTrue (form_sound f) → IsTrue (page_sound (page_by f front))
+
+formed_item_writable : Shapes → ItemSound → (f : Form) (value : Data) (x : Page × Holding) → IsTrue (form_sound f)
+    → read_formed_item f value ≡ Ok x → is_writable x ≡ true
+unfolding read_formed_item
+formed_item_writable shapes sounds f value x sound is =
+    then_ok (members_of value) _ x is (λ ms a1 b1.
+    then_ok (name_of ms) _ x b1 (λ n a2 b2.
+    then_ok (named f.name n) _ x b2 (λ u a3 b3.
+    then_ok (read_attributes f.head ms) _ x b3 (λ first a4 b4.
+    then_ok (read_holding (page_by f first) ms) _ x b4 (λ h a5 b5.
+    let e : (page_by f first, h) ≡ x = same_ok _ _ b5 in
+    rw (← e) (rw (sounds f first sound, holding_shaped shapes (page_by f first) ms h a5) refl))))))
+
+formed_items_writable : Shapes → ItemSound → (f : Form) (place : ℕ) (nodes : Items) (xs : List (Page × Holding))
+    → IsTrue (form_sound f) → read_formed_items f place nodes ≡ Ok xs → list_all is_writable xs ≡ true
+unfolding read_formed_items
+formed_items_writable shapes sounds f place no_items xs sound is = let e : [] ≡ xs = same_ok _ _ is in rw (← e) refl
+formed_items_writable shapes sounds f place (item value more) xs sound is =
+    then_ok (at_child place (read_formed_item f value)) _ xs is (λ x was later.
+    then_ok (read_formed_items f (place + 1) more) _ xs later (λ others had joins.
+    let e : x ∷ others ≡ xs = same_ok _ _ joins in
+    let one = formed_item_writable shapes sounds f value x sound (child_ok place _ x was) in
+    let rest = formed_items_writable shapes sounds f (place + 1) more others sound had in
+    rw (← e) (rw (one, rest) refl)))
+
+pub formed_is_shaped : Shapes → ItemSound → (p : Page) (f : Form) (ms : Members) (h : FormedHolding) → IsTrue (form_sound f)
+    → read_formed_holding p f ms ≡ Ok h → formed_shaped p h ≡ true
+unfolding read_formed_holding
+formed_is_shaped shapes sounds p f ms h sound is =
+    then_ok (keys_known p.head ms ms) _ h is (λ w a1 b1.
+    then_ok (read_attributes p.head ms) _ h b1 (λ head a2 b2.
+    then_ok (nodes_of ms) _ h b2 (λ nodes a3 b3.
+    then_ok (read_formed_items f 0 nodes) _ h b3 (λ items a4 b4.
+    let e : record { head = head; items = items } ≡ h = same_ok _ _ b4 in
+    rw (← e) (rw (shapes p.head ms head a2, formed_items_writable shapes sounds f 0 nodes items sound a4) refl)))))
+
+pub formed_of : (p : Page) (f : Form) (ms : Members) (h : FormedHolding) (b : List ℕ) → read_formed_holding p f ms ≡ Ok h
+    → bits_of b ≡ spell_formed p h → read_formed p f ms ≡ sized p.tag (bits_of b)
+unfolding read_formed
+formed_of p f ms h b is same = rw is (ap (sized p.tag) (sym same))
 
 -- ---- the size of a body
 

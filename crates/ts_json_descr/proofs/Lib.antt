@@ -1,5 +1,6 @@
 pub mod StepLemmas
 mod ItemLemmas
+mod FormedLemmas
 pub mod BodyLemmas
 pub mod GroupLemmas
 pub mod PageLemmas

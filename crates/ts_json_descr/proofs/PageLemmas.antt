@@ -9,11 +9,12 @@ use Rattle.ts_fields.specs.Layout as layout
 use Rattle.ts_fields.specs.Layout.{Row, Held}
 use Rattle.ts_fields.specs.Spelling.{holds}
 use Rattle.ts_groups.specs.Groups.{Group, grouped_exact, grouped_sound}
+use Rattle.ts_item_forms.specs.ItemForms.{Form, formed_exact, formed_sound}
 use Rattle.ts_shown_pages.specs.Extensions.{extension_groups_of, extension_named, extension_of, extensions}
-use Rattle.ts_shown_pages.specs.Pages.{groups_of, pages, page_of, page_named, second_quarter, third_quarter, last_quarter}
+use Rattle.ts_shown_pages.specs.Pages.{form_of, groups_of, pages, page_of, page_named, second_quarter, third_quarter, last_quarter}
 use Rattle.ts_jtree.specs.Shown.{are_within, value_within}
 use Rattle.ts_json_descr.specs.DescrElements.{generic_name}
-use Rattle.ts_json_descr.specs.DescrReading.{groups_sound}
+use Rattle.ts_json_descr.specs.DescrReading.{form_good, groups_sound}
 use Rattle.ts_json_descr.proofs.GroupLemmas.{every, plain, show_again}
 use Rattle.ts_json_descr.proofs.StepLemmas.{both, not_true}
 
@@ -39,6 +40,11 @@ items_show (Some i) = show_again i.1
 abbrev pub groups_good : Page → Option (List Group) → Bool
 groups_good p None = true
 groups_good p (Some groups) = grouped_sound p groups && (grouped_exact p groups && show_again (p.head ++ every groups))
+
+-- a form of items that can be read and written, shown and read again, whichever fields an item has
+abbrev pub form_shown : Page → Option Form → Bool
+form_shown p None = true
+form_shown p (Some f) = (formed_sound p f && formed_exact p f) && (show_again (f.head ++ every f.groups) && items_show f.inner)
 
 -- a page with such groups whose descriptors can be shown and read again
 abbrev is_shown : Page → Option (List Group) → Bool
@@ -92,18 +98,24 @@ pub record Good (p : Page) : Type 0 where
   pub named : page_named p.name ≡ Some p
   pub own : bytes_eq p.name generic_name ≡ false
   pub shown : Shown p (groups_of p.tag)
+  pub formed : form_shown p (form_of p.tag) ≡ true
 
-good_each : (ps : List Page) → list_all (is_good groups_of) ps ≡ true → AllOf (λ p. page_named p.name ≡ Some p) ps
-    → AllOf Good ps
-good_each [] is named = tt
-good_each (p ∷ ps) is named =
+-- the form of the items of a page, by its tag
+abbrev is_formed : Page → Bool
+is_formed p = form_shown p (form_of p.tag)
+
+good_each : (ps : List Page) → list_all (is_good groups_of) ps ≡ true → list_all is_formed ps ≡ true
+    → AllOf (λ p. page_named p.name ≡ Some p) ps → AllOf Good ps
+good_each [] is formed named = tt
+good_each (p ∷ ps) is formed named =
     let parts = both (is_good groups_of p) (list_all (is_good groups_of) ps) is in
+    let forms = both (is_formed p) (list_all is_formed ps) formed in
     let one = both (not (bytes_eq p.name generic_name)) (is_shown p (groups_of p.tag)) parts.0 in
-    (record { named = named.0; own = not_true _ one.0; shown = shown_is p (groups_of p.tag) one.1 }, good_each ps parts.1 named.1)
+    (record { named = named.0; own = not_true _ one.0; shown = shown_is p (groups_of p.tag) one.1; formed = forms.0 }, good_each ps parts.1 forms.1 named.1)
 
 all_good : AllOf Good pages
 unfolding second_quarter third_quarter last_quarter
-all_good = good_each pages refl (each_same (λ p. page_named p.name) (λ p. Some p) pages refl)
+all_good = good_each pages refl refl (each_same (λ p. page_named p.name) (λ p. Some p) pages refl)
 
 pub page_good : (tag : ℕ) (p : Page) → page_of tag ≡ Some p → Good p × (tag ≡ p.tag)
 page_good tag p found =
@@ -149,6 +161,19 @@ sound_by p (Some groups) is = (both (grouped_sound p groups) _ is.grouped).0
 
 pub groups_by_tag : (tag : ℕ) (p : Page) → page_of tag ≡ Some p → IsTrue (groups_sound p (groups_of p.tag))
 groups_by_tag tag p found = let it = page_good tag p found in sound_by p (groups_of p.tag) it.0.shown
+
+-- so can the form of its items
+good_by : (p : Page) (form : Option Form) → form_shown p form ≡ true → IsTrue (form_good p form)
+good_by p None is = refl
+good_by p (Some f) is = (both (formed_sound p f && formed_exact p f) _ is).0
+
+pub form_by_tag : (tag : ℕ) (p : Page) → page_of tag ≡ Some p → IsTrue (form_good p (form_of p.tag))
+form_by_tag tag p found = let it = page_good tag p found in good_by p (form_of p.tag) it.0.formed
+
+pub form_by_name : (name : List ℕ) (p : Page) → page_named name ≡ Some p → IsTrue (form_good p (form_of p.tag))
+form_by_name name p found =
+    let it = found_in Good (λ q. bytes_eq name q.name) pages p all_good found in
+    good_by p (form_of p.tag) it.0.formed
 
 pub groups_by_name : (name : List ℕ) (p : Page) → page_named name ≡ Some p → IsTrue (groups_sound p (groups_of p.tag))
 groups_by_name name p found =

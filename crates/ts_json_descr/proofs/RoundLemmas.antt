@@ -1,9 +1,9 @@
 -- A descriptor that is shown is read again.
 use Rattle.std.proofs.Common.{◌≡◌, ℕ, ◌+◌, ◌<◌, ◌≤◌, Bool, true, false, List, [], ◌∷◌, ◌++◌, ◌∙◌, length, take, refl, sym, ap, arith, map, subst}
-use Rattle.std.specs.Prelude.{Option, Some, None, Ok, Err, option_map, nat_eq, nat_lt, if◌then◌else◌}
+use Rattle.std.specs.Prelude.{◌&&◌, Option, Some, None, Ok, Err, option_map, nat_eq, nat_lt, if◌then◌else◌}
 use Rattle.std.proofs.lemmas.Bool.{eqb-true, lt-ltb, le-leb}
 use Rattle.std.proofs.lemmas.Option.{same_Some}
-use Rattle.serde_json.specs.Data.{Data, Items, Members}
+use Rattle.serde_json.specs.Data.{Data, Items, Members, array, object}
 use Rattle.serde_json.specs.Find.{get_member}
 use Rattle.serde_json.specs.View.{items_of}
 use Rattle.ts_bits.specs.TaggedBody.{TaggedBody}
@@ -12,18 +12,19 @@ use Rattle.ts_fields.specs.Bodies.{Page, Holding, all_fit, held_by, items_fit, p
 use Rattle.ts_fields.specs.Fitting.{are_bytes, fits}
 use Rattle.ts_fields.specs.Layout.{Row, Held, number, bytes}
 use Rattle.ts_groups.specs.Groups.{Group, chosen, grouped_exact, grouped_sound, page_with, read_grouped}
+use Rattle.ts_item_forms.specs.ItemForms.{AreOfForm, Form, FormedHolding, IsOfForm, formed_exact, formed_sound, page_by, read_formed, spell_formed}
 use Rattle.ts_shown_pages.specs.Extensions.{extension_groups_of, extension_of, extension_tag}
-use Rattle.ts_shown_pages.specs.Pages.{groups_of, page_of}
+use Rattle.ts_shown_pages.specs.Pages.{form_of, groups_of, page_of}
 use Rattle.ts_jtree.specs.Attributes.{read_attributes}
 use Rattle.ts_jtree.specs.Elements.{keys_known, name_of, nodes_at, nodes_key, nodes_of, no_children, read_element}
 use Rattle.ts_jtree.specs.Faults.{Reading, ◌>>=◌}
 use Rattle.ts_jtree.specs.Shown.{are_within, element_members, rows_show}
-use Rattle.ts_json_descr.specs.DescrElements.{body_shown, by_page, descr_shown, extension_typed, generic_name, generic_page, generic_rows, generic_shown, item_shown, items_shown, read_paged, shown_by}
+use Rattle.ts_json_descr.specs.DescrElements.{body_shown, by_page, descr_shown, extension_typed, formed_shown, generic_name, generic_page, generic_rows, generic_shown, item_shown, items_shown, no_form, page_shown, read_paged, shown_by}
 use Rattle.ts_json_descr.specs.DescrReading as reads
-use Rattle.ts_json_descr.specs.DescrReading.{descr_read, read_children, read_generic, read_holding, read_item, read_items, read_typed, sized}
+use Rattle.ts_json_descr.specs.DescrReading.{descr_read, read_by_page, read_children, read_formed_holding, read_formed_item, read_formed_items, read_generic, read_holding, read_item, read_items, read_typed, sized}
 use Rattle.ts_json_descr.proofs.BodyLemmas.{Lengths}
 use Rattle.ts_json_descr.proofs.GroupLemmas.{every, first_attributes, plain, show_again, show_chosen}
-use Rattle.ts_json_descr.proofs.PageLemmas.{Shown, extension_good, groups_good, items_show, page_good, plain_within}
+use Rattle.ts_json_descr.proofs.PageLemmas.{Shown, extension_good, form_shown, items_show, page_good, plain_within}
 use Rattle.ts_json_descr.proofs.StepLemmas.{both, not_more}
 use Rattle.std.proofs.lemmas.Slice.Eq.{bytes_eq-Decides}
 use Rattle.std.specs.Prelude.{bytes_eq}
@@ -36,6 +37,7 @@ pub record Laws : Type 0 where
   pub children : (rs : List Row) (called : List ℕ) (nodes : Option Data) (values : List Held) → rows_show rs ≡ true → get_member nodes_key (element_members rs called nodes values) ≡ nodes
   pub lengths : Lengths
   pub written : (p : Page) (from : List Bool) (h : Holding) → page_exact p ≡ true → read_page p from ≡ Some h → (from ≡ spell_page p h) × (page_fits p h ≡ true)
+  pub formed : (p : Page) (f : Form) (from : List Bool) (h : FormedHolding) → formed_exact p f ≡ true → read_formed p f from ≡ Some h → (from ≡ spell_formed p h) × (fits p.head h.head ≡ true) × (AreOfForm f h.items)
   pub grouped : (p : Page) (groups : List Group) (from : List Bool) (q : Page) (h : Holding) → grouped_exact p groups ≡ true → read_grouped p groups from ≡ Some (q, h) → (q ≡ page_with p groups (take (held_by p.head) h.head)) × (from ≡ spell_page q h) × (page_fits q h ≡ true)
 
 self_name : (name : List ℕ) → bytes_eq name name ≡ true
@@ -162,28 +164,114 @@ paged_back laws p None row x short good read = go (read_page p (bits_of row)) re
         subst (λ z. ReadsBack p None row (members_shown z)) same (plain_back laws p h row short good at)
 paged_back laws p (Some groups) row x short good read = grouped_back laws p groups x.0 x.1 row short good read
 
-typed_again : Laws → (d : TaggedBody) (p : Page) (x : Page × Holding) → length d.body ≤ 255 → page_of d.tag ≡ Some p
-    → read_paged p (groups_of p.tag) (bits_of d.body) ≡ Some x → descr_read (body_shown x.0 x.1) ≡ Ok (d.tag, bits_of d.body)
+-- ---- items of a form
+
+-- the element of an item is read by the fields that the item has
+formed_item_again : Laws → (f : Form) (x : Page × Holding) → show_again (f.head ++ every f.groups) ≡ true
+    → items_show f.inner ≡ true → IsOfForm f x → read_formed_item f (body_shown x.0 x.1) ≡ Ok x
+unfolding read_formed_item
+formed_item_again laws f x shows inner is =
+    let h = x.1 in
+    let values = take (held_by f.head) h.head in
+    let q = page_by f values in
+    let parts = both (rows_show q.head) (plain q.head) (show_chosen f.head f.groups values shows) in
+    let inside = plain_within q.head h.head parts.1 in
+    let fit : page_fits q h ≡ true = ap (λ z. page_fits z h) (sym is.own) ∙ is.fits in
+    let halves = both (fits q.head h.head) (items_fit q.items h.items) fit in
+    let nodes = items_shown q.items h.items in
+    let ms = element_members q.head q.name nodes h.head in
+    let first : read_attributes f.head ms ≡ Ok values =
+    first_attributes f.head (chosen f.groups values) ms h.head (laws.values q.head q.name nodes h.head parts.0 halves.0 inside) in
+    let all : read_holding q ms ≡ Ok h = holding_again laws q h parts.0 inner inside fit in
+    let whole : read_formed_item f (body_shown q h) ≡ Ok (q, h) = rw (laws.name q.head q.name nodes h.head parts.0, self_name f.name, first, all) refl in
+    subst (λ z. read_formed_item f (body_shown z h) ≡ Ok (z, h)) (sym is.own) whole
+
+formed_items_again : Laws → (f : Form) (place : ℕ) (xs : List (Page × Holding)) → show_again (f.head ++ every f.groups) ≡ true
+    → items_show f.inner ≡ true → AreOfForm f xs
+    → read_formed_items f place (items_of (map (λ x. body_shown x.0 x.1) xs)) ≡ Ok xs
+unfolding read_formed_items
+formed_items_again laws f place [] shows inner all = refl
+formed_items_again laws f place (x ∷ xs) shows inner all =
+    rw (formed_item_again laws f x shows inner all.0, formed_items_again laws f (place + 1) xs shows inner all.1) refl
+
+-- the children of the element of a body with such items
+abbrev formed_nodes : FormedHolding → Option Data
+formed_nodes h = Some (array (items_of (map (λ x. body_shown x.0 x.1) h.items)))
+
+formed_back : Laws → (p : Page) (f : Form) (h : FormedHolding) (row : List ℕ) → length row ≤ 255 → Shown p None
+    → form_shown p (Some f) ≡ true → read_formed p f (bits_of row) ≡ Some h
+    → reads.read_formed p f (element_members p.head p.name (formed_nodes h) h.head) ≡ Ok (p.tag, bits_of row)
+unfolding reads.read_formed read_formed_holding nodes_of
+formed_back laws p f h row short good formed read =
+    let one = both (formed_sound p f && formed_exact p f) (show_again (f.head ++ every f.groups) && items_show f.inner) formed in
+    let two = both (show_again (f.head ++ every f.groups)) (items_show f.inner) one.1 in
+    let took = laws.formed p f (bits_of row) h (both (formed_sound p f) (formed_exact p f) one.0).1 read in
+    let parts = both (rows_show p.head) (plain p.head) good.head in
+    let inside = plain_within p.head h.head parts.1 in
+    let small : length (spell_formed p h) ≤ 2040 = omega (arith, ap length took.0, laws.lengths row) in
+    let test = not_more 2040 (length (spell_formed p h)) (nat_lt 2040 (length (spell_formed p h))) refl small in
+    rw (
+      laws.keys p.head p.name (formed_nodes h) h.head parts.0,
+      laws.values p.head p.name (formed_nodes h) h.head parts.0 took.1 inside,
+      laws.children p.head p.name (formed_nodes h) h.head parts.0,
+      formed_items_again laws f 0 h.items two.0 two.1 took.2,
+    ) (sized_again p.tag p.tag (spell_formed p h) (bits_of row) test refl took.0)
+
+-- an element that is read by a page as these bytes, and whose name is the page's
+record ShownBack (p : Page) (groups : Option (List Group)) (form : Option Form) (row : List ℕ) (x : Data) : Type 0 where
+  ms : Members
+  element : x ≡ object ms
+  named : name_of ms ≡ Ok p.name
+  read : read_by_page p groups form ms ≡ Ok (p.tag, bits_of row)
+
+-- what a page reads is shown so that the page reads it again
+page_back : Laws → (p : Page) (groups : Option (List Group)) (form : Option Form) (row : List ℕ) (x : Data) → length row ≤ 255
+    → Shown p groups → form_shown p form ≡ true → page_shown p groups form (bits_of row) ≡ Some x → ShownBack p groups form row x
+page_back laws p groups None row x short good formed read = go (read_paged p groups (bits_of row)) refl read
+  where
+    go : (r : Option (Page × Holding)) → read_paged p groups (bits_of row) ≡ r → option_map (λ y. body_shown y.0 y.1) r ≡ Some x → ShownBack p groups None row x
+    go None at is = cc
+    go (Some y) at is =
+        let back = paged_back laws p groups row y short good at in
+        record { ms = members_shown y; element = sym (same_Some _ _ is); named = back.named; read = back.read }
+page_back laws p groups (Some f) row x short good formed read = go (read_formed p f (bits_of row)) refl read
+  where
+    alone : Shown p None
+    alone = record { head = good.head; items = good.items; exact = good.exact; grouped = refl }
+
+    go : (r : Option FormedHolding) → read_formed p f (bits_of row) ≡ r → option_map (formed_shown p) r ≡ Some x → ShownBack p groups (Some f) row x
+    go None at is = cc
+    go (Some h) at is = record {
+      ms = element_members p.head p.name (formed_nodes h) h.head;
+      element = sym (same_Some _ _ is);
+      named = laws.name p.head p.name (formed_nodes h) h.head (both (rows_show p.head) (plain p.head) good.head).0;
+      read = formed_back laws p f h row short alone formed at;
+    }
+
+typed_again : Laws → (d : TaggedBody) (p : Page) (x : Data) → length d.body ≤ 255 → page_of d.tag ≡ Some p
+    → page_shown p (groups_of p.tag) (form_of p.tag) (bits_of d.body) ≡ Some x → descr_read x ≡ Ok (d.tag, bits_of d.body)
 unfolding descr_read
 typed_again laws d p x short found read =
     let good = page_good d.tag p found in
-    let back = paged_back laws p (groups_of p.tag) d.body x short good.0.shown read in
-    rw (back.named, good.0.own, good.0.named, back.read) (ap (λ n. Ok (n, bits_of d.body)) (sym good.1))
+    let back = page_back laws p (groups_of p.tag) (form_of p.tag) d.body x short good.0.shown good.0.formed read in
+    let whole : descr_read (object back.ms) ≡ Ok (d.tag, bits_of d.body) = rw (back.named, good.0.own, good.0.named, back.read) (ap (λ n. Ok (n, bits_of d.body)) (sym good.1)) in
+    ap descr_read back.element ∙ whole
 
 -- the same of an extension descriptor: its element is read as the extension's tag and the bytes after it
-extension_again : Laws → (d : TaggedBody) (tag : ℕ) (row : List ℕ) (p : Page) (x : Page × Holding) → d.body ≡ tag ∷ row
+extension_again : Laws → (d : TaggedBody) (tag : ℕ) (row : List ℕ) (p : Page) (x : Data) → d.body ≡ tag ∷ row
     → d.tag ≡ extension_tag → length d.body ≤ 255 → extension_of tag ≡ Some p
-    → read_paged p (extension_groups_of p.tag) (bits_of row) ≡ Some x → descr_read (body_shown x.0 x.1) ≡ Ok (d.tag, bits_of d.body)
+    → page_shown p (extension_groups_of p.tag) None (bits_of row) ≡ Some x → descr_read x ≡ Ok (d.tag, bits_of d.body)
 unfolding descr_read
 extension_again laws d tag row p x body is short found read =
     let good = extension_good tag p found in
     let few : length row ≤ 255 = omega (arith, ap length body, short) in
-    let back = paged_back laws p (extension_groups_of p.tag) row x few good.0.shown read in
+    let back = page_back laws p (extension_groups_of p.tag) None row x few good.0.shown refl read in
     let whole = bits 8 p.tag ++ bits_of row in
     let same : bits_of d.body ≡ whole = ap bits_of body ∙ ap (λ n. bits 8 n ++ bits_of row) good.1 in
     let small : length whole ≤ 2040 = omega (arith, ap length same, laws.lengths d.body, short) in
     let test = not_more 2040 (length whole) (nat_lt 2040 (length whole)) refl small in
-    rw (back.named, good.0.own, good.0.apart, good.0.named, back.read) (sized_again extension_tag d.tag whole (bits_of d.body) test is same)
+    let all : descr_read (object back.ms) ≡ Ok (d.tag, bits_of d.body) = rw (back.named, good.0.own, good.0.apart, good.0.named, back.read) (sized_again extension_tag d.tag whole (bits_of d.body) test is same) in
+    ap descr_read back.element ∙ all
 
 generic_again : Laws → (d : TaggedBody) → d.tag < 256 → are_bytes d.body ≡ true → length d.body ≤ 255
     → descr_read (generic_shown d) ≡ Ok (d.tag, bits_of d.body)
@@ -198,22 +286,23 @@ generic_again laws d small is short =
 
 shown_by_page : Laws → (d : TaggedBody) (page : Option Page) → d.tag < 256 → are_bytes d.body ≡ true
     → length d.body ≤ 255 → page_of d.tag ≡ page
-    → descr_read (shown_by (by_page page groups_of d.body) d) ≡ Ok (d.tag, bits_of d.body)
+    → descr_read (shown_by (by_page page groups_of form_of d.body) d) ≡ Ok (d.tag, bits_of d.body)
 shown_by_page laws d None small is short found = generic_again laws d small is short
-shown_by_page laws d (Some p) small is short found = go (read_paged p (groups_of p.tag) (bits_of d.body)) refl
+shown_by_page laws d (Some p) small is short found =
+    go (page_shown p (groups_of p.tag) (form_of p.tag) (bits_of d.body)) refl
   where
-    go : (read : Option (Page × Holding)) → read_paged p (groups_of p.tag) (bits_of d.body) ≡ read → descr_read (shown_by read d) ≡ Ok (d.tag, bits_of d.body)
+    go : (read : Option Data) → page_shown p (groups_of p.tag) (form_of p.tag) (bits_of d.body) ≡ read → descr_read (shown_by read d) ≡ Ok (d.tag, bits_of d.body)
     go None read = generic_again laws d small is short
     go (Some x) read = typed_again laws d p x short found read
 
 shown_by_extension : Laws → (d : TaggedBody) (tag : ℕ) (row : List ℕ) (page : Option Page) → d.body ≡ tag ∷ row
     → d.tag ≡ extension_tag → d.tag < 256 → are_bytes d.body ≡ true → length d.body ≤ 255 → extension_of tag ≡ page
-    → descr_read (shown_by (by_page page extension_groups_of row) d) ≡ Ok (d.tag, bits_of d.body)
+    → descr_read (shown_by (by_page page extension_groups_of no_form row) d) ≡ Ok (d.tag, bits_of d.body)
 shown_by_extension laws d tag row None body id small is short found = generic_again laws d small is short
 shown_by_extension laws d tag row (Some p) body id small is short found =
-    go (read_paged p (extension_groups_of p.tag) (bits_of row)) refl
+    go (page_shown p (extension_groups_of p.tag) None (bits_of row)) refl
   where
-    go : (read : Option (Page × Holding)) → read_paged p (extension_groups_of p.tag) (bits_of row) ≡ read → descr_read (shown_by read d) ≡ Ok (d.tag, bits_of d.body)
+    go : (read : Option Data) → page_shown p (extension_groups_of p.tag) None (bits_of row) ≡ read → descr_read (shown_by read d) ≡ Ok (d.tag, bits_of d.body)
     go None read = generic_again laws d small is short
     go (Some x) read = extension_again laws d tag row p x body id short found read
 
@@ -229,6 +318,6 @@ pub descr_again : Laws → (d : TaggedBody) → d.tag < 256 → are_bytes d.body
     → descr_read (descr_shown d) ≡ Ok (d.tag, bits_of d.body)
 descr_again laws d small is short = go (nat_eq d.tag extension_tag) refl
   where
-    go : (b : Bool) → nat_eq d.tag extension_tag ≡ b → descr_read (shown_by (if b then extension_typed d.body else by_page (page_of d.tag) groups_of d.body) d) ≡ Ok (d.tag, bits_of d.body)
+    go : (b : Bool) → nat_eq d.tag extension_tag ≡ b → descr_read (shown_by (if b then extension_typed d.body else by_page (page_of d.tag) groups_of form_of d.body) d) ≡ Ok (d.tag, bits_of d.body)
     go true at = extension_shown laws d d.body refl (eqb-true d.tag extension_tag at) small is short
     go false at = shown_by_page laws d (page_of d.tag) small is short refl

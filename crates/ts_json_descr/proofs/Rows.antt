@@ -1,21 +1,24 @@
 -- Worked rows: the definitions computed.
 use Rattle.std.proofs.Common.{◌≡◌, ◌∷◌, [], refl}
 use Rattle.std.specs.Prelude.{codes, Err}
-use Rattle.serde_json.specs.Data.{member, no_members, object, string}
+use Rattle.serde_json.specs.Data.{array, item, member, no_items, no_members, number, object, string, unsigned}
 use Rattle.serde_json.specs.Written.{compact_text}
 use Rattle.ts_fields.specs.Bits.{bits, number_of}
 use Rattle.ts_fields.specs.Bodies.{read_page, read_after, read_items, read_loop}
 use Rattle.ts_fields.specs.Reading.{read_number, read_bytes, read_decimal, read_rest, read_field, read_rows}
 use Rattle.ts_groups.specs.Groups.{read_grouped}
+use Rattle.ts_item_forms.specs.ItemForms.{read_each, read_formed, read_item}
 use Rattle.ts_shown_pages.specs.Extensions.{extensions}
 use Rattle.ts_shown_pages.specs.Pages.{second_quarter, third_quarter, last_quarter}
 use Rattle.ts_jtree.specs.declared.fault.JsonKind.TheVariants.{Missing, UnknownKey}
-use Rattle.ts_jtree.specs.Attributes.{attribute_of, number_attribute, read_attributes}
-use Rattle.ts_jtree.specs.Elements.{keys_known, name_of}
+use Rattle.ts_jtree.specs.Attributes.{attribute_of, number_attribute, number_in, read_attributes}
+use Rattle.ts_jtree.specs.Elements.{keys_known, name_of, nodes_of}
 use Rattle.ts_jtree.specs.Faults.{fault_of}
+use Rattle.ts_jtree.specs.Numbers as numbers
 use Rattle.ts_jtree.proofs.OnLiterals.{shown_on_literals}
 use Rattle.ts_json_descr.specs.DescrElements.{descr_shown}
-use Rattle.ts_json_descr.specs.DescrReading.{descr_read, read_holding, read_typed}
+use Rattle.ts_json_descr.specs.DescrReading as reads
+use Rattle.ts_json_descr.specs.DescrReading.{descr_read, read_formed_holding, read_formed_item, read_formed_items, read_holding, read_typed}
 
 -- 346.0000 MHz, 64-QAM, 6.8750 Msymbol/s
 cable-row : compact_text (descr_shown (record { tag = 0x44; body = 0x03 ∷ 0x46 ∷ 0x00 ∷ 0x00 ∷ 0xFF ∷ 0xF2 ∷ 0x03 ∷ 0x00 ∷ 0x68 ∷ 0x75 ∷ 0x0F ∷ [] }))
@@ -75,3 +78,28 @@ empty-extension-row : compact_text (descr_shown (record { tag = 0x7F; body = [] 
     ≡ codes "{\"#name\":\"generic_descriptor\",\"data\":\"\",\"tag\":127}"
 unfolding shown_on_literals
 empty-extension-row = refl
+
+-- items that have a name or a number
+contents-row : compact_text (descr_shown (record { tag = 0x76; body = 0xC4 ∷ 0x02 ∷ 0x2F ∷ 0x61 ∷ 0xC9 ∷ 0x12 ∷ 0x34 ∷ [] }))
+    ≡ codes "{\"#name\":\"content_identifier_descriptor\",\"#nodes\":[{\"#name\":\"CRID\",\"crid\":\"/a\",\"crid_location\":0,\"crid_type\":49},{\"#name\":\"CRID\",\"crid_location\":1,\"crid_ref\":4660,\"crid_type\":50}]}"
+unfolding bits number_of read_number read_bytes read_field read_rows read_item read_each read_formed second_quarter third_quarter last_quarter shown_on_literals
+contents-row = refl
+
+-- items with items in them
+lists-row : compact_text (descr_shown (record { tag = 0x87; body = 0x01 ∷ 0x01 ∷ 0x41 ∷ 0x73 ∷ 0x77 ∷ 0x65 ∷ 0x04 ∷ 0x03 ∷ 0x01 ∷ 0xFC ∷ 0x01 ∷ [] }))
+    ≡ codes "{\"#name\":\"logical_channel_descriptor_v2\",\"#nodes\":[{\"#name\":\"list\",\"#nodes\":[{\"#name\":\"service\",\"logical_channel_number\":1,\"service_id\":769,\"visible_service\":true}],\"channel_list_id\":1,\"channel_list_name\":\"A\",\"country_code\":\"swe\"}]}"
+unfolding bits number_of read_number read_bytes read_field read_rows read_items read_loop read_item read_each read_formed second_quarter third_quarter last_quarter shown_on_literals
+lists-row = refl
+
+-- the same with a length that cuts a service
+cut-lists-row : compact_text (descr_shown (record { tag = 0x87; body = 0x01 ∷ 0x01 ∷ 0x41 ∷ 0x73 ∷ 0x77 ∷ 0x65 ∷ 0x03 ∷ 0x03 ∷ 0x01 ∷ 0xFC ∷ [] }))
+    ≡ codes "{\"#name\":\"generic_descriptor\",\"data\":\"010141737765030301fc\",\"tag\":135}"
+unfolding bits number_of read_number read_bytes read_field read_rows read_items read_loop read_item read_each read_formed second_quarter third_quarter last_quarter shown_on_literals
+cut-lists-row = refl
+
+-- a field that the item's own location does not have
+unknown-row : descr_read (object (member (codes "#name") (string (codes "content_identifier_descriptor")) (member (codes "#nodes") (array (item (object (
+    member (codes "#name") (string (codes "CRID")) (member (codes "crid_location") (number (unsigned 1)) (member (codes "crid_ref") (number (unsigned 5)) (member (codes "crid") (string (codes "/a")) (member (codes "crid_type") (number (unsigned 49)) no_members)))))) no_items)) no_members)))
+    ≡ Err (record { path = 0 ∷ []; key = codes "crid"; kind = UnknownKey })
+unfolding descr_read name_of reads.read_formed read_formed_holding read_formed_items read_formed_item read_holding keys_known nodes_of read_attributes attribute_of number_attribute number_in numbers.number_of second_quarter third_quarter last_quarter
+unknown-row = refl

@@ -1,8 +1,9 @@
 -- Descriptors as JSON elements.
 -- This project's own rule: a descriptor whose body reads by its tag's page is an element of the page's name,
 -- its fields attributes and its items children; every other one is a `generic_descriptor` of tag and bytes. Where the
--- first fields say which others are there, those that are there have attributes, and no others. An extension descriptor
--- has the page of its extension, which reads the bytes after descriptor_tag_extension (ETSI EN 300 468, 6.2.16).
+-- first fields say which others are there, those that are there have attributes, and no others; so with each item whose
+-- first fields say so, and items in an item are its children. An extension descriptor has the page of its extension, which
+-- reads the bytes after descriptor_tag_extension (ETSI EN 300 468, 6.2.16).
 use Rattle.std.specs.Prelude.{ℕ, Bool, List, [], ◌∷◌, map, codes, nat_eq, if◌then◌else◌, Option, Some, None, option_map, option_and_then}
 use Rattle.serde_json.specs.Data.{Data, object, array}
 use Rattle.serde_json.specs.View.{items_of}
@@ -12,9 +13,10 @@ use Rattle.ts_fields.specs.Bits.{bits_of}
 use Rattle.ts_fields.specs.Bodies.{Page, Holding, read_page}
 use Rattle.ts_fields.specs.Layout.{Row, Held, number, bytes}
 use Rattle.ts_groups.specs.Groups.{Group, read_grouped}
+use Rattle.ts_item_forms.specs.ItemForms.{Form, FormedHolding, read_formed}
 use Rattle.ts_pages.specs.PageRows.{field}
 use Rattle.ts_shown_pages.specs.Extensions.{extension_groups_of, extension_of, extension_tag}
-use Rattle.ts_shown_pages.specs.Pages.{groups_of, page_of}
+use Rattle.ts_shown_pages.specs.Pages.{form_of, groups_of, page_of}
 use Rattle.ts_jtree.specs.Shown.{element_members}
 
 -- the element of an item
@@ -29,6 +31,11 @@ items_shown (Some i) items = Some (array (items_of (map (item_shown i) items)))
 -- the element of a body that a page reads
 abbrev pub body_shown : Page → Holding → Data
 body_shown p h = object (element_members p.head p.name (items_shown p.items h.items) h.head)
+
+-- the element of a body whose items have a form: each item is shown by the page of the fields that it has
+abbrev pub formed_shown : Page → FormedHolding → Data
+formed_shown p h =
+    object (element_members p.head p.name (Some (array (items_of (map (λ x. body_shown x.0 x.1) h.items)))) h.head)
 
 -- the name of a descriptor without a page
 abbrev pub generic_name : List ℕ
@@ -53,25 +60,34 @@ abbrev pub read_paged : Page → Option (List Group) → List Bool → Option (P
 read_paged p None from = option_map (λ h. (p, h)) (read_page p from)
 read_paged p (Some groups) from = read_grouped p groups from
 
+-- the element of a body by a page, its groups and the form of its items; none where the page does not read it
+abbrev pub page_shown : Page → Option (List Group) → Option Form → List Bool → Option Data
+page_shown p groups None from = option_map (λ x. body_shown x.0 x.1) (read_paged p groups from)
+page_shown p groups (Some f) from = option_map (formed_shown p) (read_formed p f from)
+
 -- the same of these bytes, by a page if there is one
-abbrev pub by_page : Option Page → (ℕ → Option (List Group)) → List ℕ → Option (Page × Holding)
-by_page p groups row = option_and_then (λ p. read_paged p (groups p.tag) (bits_of row)) p
+abbrev pub by_page : Option Page → (ℕ → Option (List Group)) → (ℕ → Option Form) → List ℕ → Option Data
+by_page p groups forms row = option_and_then (λ p. page_shown p (groups p.tag) (forms p.tag) (bits_of row)) p
+
+-- no extension descriptor has items of a form
+abbrev pub no_form : ℕ → Option Form
+no_form tag = None
 
 -- the same of the body of an extension descriptor
-abbrev pub extension_typed : List ℕ → Option (Page × Holding)
+abbrev pub extension_typed : List ℕ → Option Data
 extension_typed [] = None
-extension_typed (tag ∷ row) = by_page (extension_of tag) extension_groups_of row
+extension_typed (tag ∷ row) = by_page (extension_of tag) extension_groups_of no_form row
 
 -- the same of a descriptor, by its tag
-abbrev pub typed : TaggedBody → Option (Page × Holding)
+abbrev pub typed : TaggedBody → Option Data
 typed d =
     if nat_eq d.tag extension_tag then extension_typed d.body
-    else by_page (page_of d.tag) groups_of d.body
+    else by_page (page_of d.tag) groups_of form_of d.body
 
 -- the element of a descriptor by its page, or the generic one
-abbrev pub shown_by : Option (Page × Holding) → TaggedBody → Data
+abbrev pub shown_by : Option Data → TaggedBody → Data
 shown_by None d = generic_shown d
-shown_by (Some x) d = body_shown x.0 x.1
+shown_by (Some x) d = x
 
 -- the element of a descriptor
 abbrev pub descr_shown : TaggedBody → Data

@@ -9,6 +9,7 @@ ghost use Rattle.ts_json_descr.specs.DescrReading.{descr_read};
 
 use ts_fields::{length_of_bits, read_is_written};
 use ts_groups::grouped_is_written;
+use ts_item_forms::formed_is_written;
 use ts_jtree::element_shows;
 
 /// Every descriptor that is shown is read again: its tag and the bits of its body, which determine its bytes.
@@ -21,4 +22,5 @@ pub fn shown_descr_is_read()
     length_of_bits();
     read_is_written();
     grouped_is_written();
+    formed_is_written();
 }

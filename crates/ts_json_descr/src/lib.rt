@@ -4,6 +4,8 @@
 #![tactic(auto)]
 
 mod descr_laws;
+mod formed_reading;
+mod formed_showing;
 mod reading;
 mod showing;
 

@@ -7,24 +7,28 @@ ghost use Rattle.ts_fields.specs.Bodies.{page, page_sound, items_sound, body_hel
 ghost use Rattle.ts_fields.specs.Layout.{rows_of, held};
 ghost use Rattle.ts_fields.specs.SoundRows.{are_sound, rows_sound};
 ghost use Rattle.ts_groups.specs.Groups.{fields_alone, grouped_sound, groups_in, values_alone};
+ghost use Rattle.ts_item_forms.specs.ItemForms;
 ghost use Rattle.ts_jtree.specs.Faults.{Answers, at_child};
 ghost use Rattle.ts_json_descr.specs.DescrReading;
-ghost use Rattle.ts_json_descr.specs.DescrReading.{groups_sound, read_extension, read_holding, read_by_name, descr_read, sized};
+ghost use Rattle.ts_json_descr.specs.DescrReading.{form_good, groups_sound, read_extension, read_holding, read_by_name, descr_read, sized};
 ghost use Rattle.ts_shown_pages.specs.Extensions;
 ghost use Rattle.ts_shown_pages.specs.Extensions.{extension_tag};
+ghost use Rattle.ts_shown_pages.specs.Pages;
 
+use crate::formed_reading::read_formed;
 use crate::showing::GENERIC;
 use serde_json::{Map, Value};
 use std::alloc::Global;
 use ts_bits::Descriptor;
 use ts_fields::{Body, Field, FieldValue, Item, ItemLayout, Layout, length_of_bits, write_body};
 use ts_groups::{FieldGroup, chosen_page_is_sound, chosen_rows, write_fields};
+use ts_item_forms::ItemForm;
 use ts_jtree::{
     JsonKind, ReadRefusal, at_child, check_keys, children, element_name, members, no_children,
     read_attributes, read_element, refuse_key, values_are_shaped,
 };
 use ts_shown_pages::{
-    EXTENSION_TAG, extension_groups_of, extension_named, groups_of, layout_named,
+    EXTENSION_TAG, extension_groups_of, extension_named, form_of, groups_of, layout_named,
 };
 
 /// An item, which has no children itself.
@@ -78,7 +82,7 @@ fn read_items(alloc: Global, layout: ItemLayout, nodes: &[Value]) -> Result<Vec<
 
 /// The children, which are items where the layout has items.
 #[tactic(auto, unfolding(crate::specs::DescrReading::read_children))]
-fn read_children(
+pub(crate) fn read_children(
     alloc: Global,
     layout: Option<ItemLayout>,
     nodes: &[Value],
@@ -114,7 +118,7 @@ pub fn read_element_body(
 }
 
 /// The descriptor of a tag and the bytes of a body, which are at most 255.
-fn sized_descr(alloc: Global, tag: u8, bytes: &[u8]) -> Result<Descriptor, ReadRefusal>
+pub(crate) fn sized_descr(alloc: Global, tag: u8, bytes: &[u8]) -> Result<Descriptor, ReadRefusal>
     ensures { Answers (λ d. (d.tag, bits_of d.body)) result (sized tag (bits_of bytes.now)) }
 {
     length_of_bits();
@@ -212,6 +216,27 @@ fn read_paged(
     }
 }
 
+/// The descriptor of an element of a page, by its groups and the form of its items.
+fn read_by_page(
+    alloc: Global,
+    layout: &Layout,
+    groups: Option<&[FieldGroup]>,
+    form: Option<&ItemForm>,
+    members: &Map<String, Value>,
+) -> Result<Descriptor, ReadRefusal>
+    requires page { IsTrue (page_sound (page layout.now)) }
+    requires groups { IsTrue (groups_sound (page layout.now) (option_map (λ g. groups_in g.now) groups)) }
+    requires form { IsTrue (form_good (page layout.now) (option_map (λ f. ItemForms.form f.now) form)) }
+    ensures { Answers (λ d. (d.tag, bits_of d.body)) result
+        (DescrReading.read_by_page (page layout.now) (option_map (λ g. groups_in g.now) groups.entry)
+        (option_map (λ f. ItemForms.form f.now) form.entry) (members_view members.now.entries)) }
+{
+    match form {
+        None => read_paged(alloc, layout, groups, members),
+        Some(form) => read_formed(alloc, layout, form, members),
+    }
+}
+
 /// The extension descriptor of an extension's tag and the bytes after it.
 fn extended(alloc: Global, tag: u8, bytes: &[u8]) -> Result<Descriptor, ReadRefusal>
     ensures { Answers (λ d. (d.tag, bits_of d.body)) result (sized extension_tag (bits 8 tag ++ bits_of bytes.now)) }
@@ -259,6 +284,24 @@ fn read_generic(alloc: Global, members: &Map<String, Value>) -> Result<Descripto
     tagged(alloc, &body.head)
 }
 
+/// The descriptor of an element of the page of a tag.
+fn read_tagged(
+    alloc: Global,
+    layout: &Layout,
+    members: &Map<String, Value>,
+) -> Result<Descriptor, ReadRefusal>
+    requires page { IsTrue (page_sound (page layout.now)) }
+    requires groups { IsTrue (groups_sound (page layout.now) (Pages.groups_of layout.now.tag)) }
+    requires form { IsTrue (form_good (page layout.now) (Pages.form_of layout.now.tag)) }
+    ensures { Answers (λ d. (d.tag, bits_of d.body)) result
+        (DescrReading.read_by_page (page layout.now) (Pages.groups_of layout.now.tag) (Pages.form_of layout.now.tag)
+        (members_view members.now.entries)) }
+{
+    let groups = groups_of(layout.tag);
+    let form = form_of(layout.tag);
+    read_by_page(alloc, layout, groups, form, members)
+}
+
 /// The descriptor of an element of this name.
 fn read_named(
     alloc: Global,
@@ -272,7 +315,7 @@ fn read_named(
         return read_generic(alloc, members);
     }
     match layout_named(name) {
-        Some(layout) => read_paged(alloc, layout, groups_of(layout.tag), members),
+        Some(layout) => read_tagged(alloc, layout, members),
         None => read_extended(alloc, name, members),
     }
 }

@@ -7,18 +7,23 @@ ghost use Rattle.ts_fields.specs.Bodies.{page, page_fits, page_sound, body_held,
 ghost use Rattle.ts_fields.specs.Fitting.{fits};
 ghost use Rattle.ts_fields.specs.Layout.{rows_of, held, number, bytes};
 ghost use Rattle.ts_groups.specs.Groups.{fields_alone, grouped_sound, groups_in, values_alone};
-ghost use Rattle.ts_json_descr.specs.DescrElements.{descr_shown, body_shown, item_shown, items_shown, generic_shown, by_page, extension_typed, read_paged, typed};
-ghost use Rattle.ts_json_descr.specs.DescrReading.{groups_sound};
+ghost use Rattle.ts_json_descr.specs.DescrElements.{descr_shown, body_shown, item_shown, items_shown, generic_shown, by_page, extension_typed, no_form, page_shown, typed};
+ghost use Rattle.ts_item_forms.specs.ItemForms;
+ghost use Rattle.ts_json_descr.specs.DescrReading.{form_good, groups_sound};
 ghost use Rattle.ts_shown_pages.specs.Extensions;
 ghost use Rattle.ts_shown_pages.specs.Pages;
 
+use crate::formed_showing::formed_json;
 use serde_json::Value;
 use std::alloc::{AllocError, Global};
 use ts_bits::Descriptor;
 use ts_fields::{Body, Field, FieldValue, Item, ItemLayout, Kind, Layout, NotRead, read_body};
 use ts_groups::{FieldGroup, GroupedBody, read_grouped};
+use ts_item_forms::ItemForm;
 use ts_jtree::{element_json, fit_is_shown};
-use ts_shown_pages::{EXTENSION_TAG, extension_groups_of, extension_of, groups_of, layout_of};
+use ts_shown_pages::{
+    EXTENSION_TAG, extension_groups_of, extension_of, form_of, groups_of, layout_of,
+};
 
 /// The layout of a descriptor without a page: tag and bytes.
 pub static GENERIC: Layout = Layout {
@@ -55,7 +60,7 @@ pub fn descr_json(alloc: Global, from: &Descriptor) -> Result<Value, AllocError>
 
 /// The element of a descriptor by its page; `None` where it has none, or its page does not read it.
 fn typed_json(alloc: Global, from: &Descriptor) -> Result<Option<Value>, AllocError>
-    ensures { IfOk result (λ v. option_map view v ≡ option_map (λ x. body_shown x.0 x.1) (typed from.now)) }
+    ensures { IfOk result (λ v. option_map view v ≡ typed from.now) }
 {
     if from.tag() == EXTENSION_TAG {
         return extension_json(alloc, from.body());
@@ -67,19 +72,45 @@ fn typed_json(alloc: Global, from: &Descriptor) -> Result<Option<Value>, AllocEr
 fn tagged_json(alloc: Global, tag: u8, body: &[u8]) -> Result<Option<Value>, AllocError>
     requires { length body.now ≤ 255 }
     ensures { IfOk result (λ v. option_map view v
-        ≡ option_map (λ x. body_shown x.0 x.1) (by_page (Pages.page_of tag) Pages.groups_of body.now)) }
+        ≡ by_page (Pages.page_of tag) Pages.groups_of Pages.form_of body.now) }
 {
     let Some(layout) = layout_of(tag) else {
         return Ok(None);
     };
-    paged_json(alloc, layout, groups_of(layout.tag), body)
+    by_form_json(
+        alloc,
+        layout,
+        groups_of(layout.tag),
+        form_of(layout.tag),
+        body,
+    )
+}
+
+/// The element of a body by a page, by its groups and the form of its items; `None` where the page does not read it.
+fn by_form_json(
+    alloc: Global,
+    layout: &Layout,
+    groups: Option<&[FieldGroup]>,
+    form: Option<&ItemForm>,
+    body: &[u8],
+) -> Result<Option<Value>, AllocError>
+    requires room { length body.now ≤ 255 }
+    requires page { IsTrue (page_sound (page layout.now)) }
+    requires groups { IsTrue (groups_sound (page layout.now) (option_map (λ g. groups_in g.now) groups)) }
+    requires form { IsTrue (form_good (page layout.now) (option_map (λ f. ItemForms.form f.now) form)) }
+    ensures { IfOk result (λ v. option_map view v ≡ page_shown (page layout.now)
+        (option_map (λ g. groups_in g.now) groups.entry) (option_map (λ f. ItemForms.form f.now) form.entry) (bits_of body.now)) }
+{
+    match form {
+        None => paged_json(alloc, layout, groups, body),
+        Some(form) => formed_json(alloc, layout, form, body),
+    }
 }
 
 /// The element of the body of an extension descriptor; `None` where it has no page, or its page does not read it.
 fn extension_json(alloc: Global, body: &[u8]) -> Result<Option<Value>, AllocError>
     requires { length body.now ≤ 255 }
-    ensures { IfOk result (λ v. option_map view v
-        ≡ option_map (λ x. body_shown x.0 x.1) (extension_typed body.now)) }
+    ensures { IfOk result (λ v. option_map view v ≡ extension_typed body.now) }
 {
     match body.split_first() {
         Some((tag, rest)) => extended_json(alloc, *tag, rest),
@@ -91,7 +122,7 @@ fn extension_json(alloc: Global, body: &[u8]) -> Result<Option<Value>, AllocErro
 fn extended_json(alloc: Global, tag: u8, rest: &[u8]) -> Result<Option<Value>, AllocError>
     requires { length rest.now ≤ 255 }
     ensures { IfOk result (λ v. option_map view v
-        ≡ option_map (λ x. body_shown x.0 x.1) (by_page (Extensions.extension_of tag) Extensions.extension_groups_of rest.now)) }
+        ≡ by_page (Extensions.extension_of tag) Extensions.extension_groups_of no_form rest.now) }
 {
     let Some(layout) = extension_of(tag) else {
         return Ok(None);
@@ -109,8 +140,8 @@ fn paged_json(
     requires room { length body.now ≤ 255 }
     requires page { IsTrue (page_sound (page layout.now)) }
     requires groups { IsTrue (groups_sound (page layout.now) (option_map (λ g. groups_in g.now) groups)) }
-    ensures { IfOk result (λ v. option_map view v ≡ option_map (λ x. body_shown x.0 x.1)
-        (read_paged (page layout.now) (option_map (λ g. groups_in g.now) groups.entry) (bits_of body.now))) }
+    ensures { IfOk result (λ v. option_map view v
+        ≡ page_shown (page layout.now) (option_map (λ g. groups_in g.now) groups.entry) None (bits_of body.now)) }
 {
     match groups {
         None => plain_json(alloc, layout, body),
@@ -122,8 +153,7 @@ fn paged_json(
 fn plain_json(alloc: Global, layout: &Layout, body: &[u8]) -> Result<Option<Value>, AllocError>
     requires room { length body.now ≤ 255 }
     requires page { IsTrue (page_sound (page layout.now)) }
-    ensures { IfOk result (λ v. option_map view v
-        ≡ option_map (λ x. body_shown x.0 x.1) (read_paged (page layout.now) None (bits_of body.now))) }
+    ensures { IfOk result (λ v. option_map view v ≡ page_shown (page layout.now) None None (bits_of body.now)) }
 {
     match read_body(alloc, layout, body) {
         Ok(body) => Ok(Some(body_json(alloc, layout, &body)?)),
@@ -141,8 +171,8 @@ fn grouped_json(
 ) -> Result<Option<Value>, AllocError>
     requires room { length body.now ≤ 255 }
     requires groups { IsTrue (grouped_sound (page layout.now) (groups_in groups.now)) }
-    ensures { IfOk result (λ v. option_map view v ≡ option_map (λ x. body_shown x.0 x.1)
-        (read_paged (page layout.now) (Some (groups_in groups.now)) (bits_of body.now))) }
+    ensures { IfOk result (λ v. option_map view v
+        ≡ page_shown (page layout.now) (Some (groups_in groups.now)) None (bits_of body.now)) }
 {
     match read_grouped(alloc, layout, groups, body) {
         Ok(body) => Ok(Some(alone_json(alloc, layout, &body)?)),
@@ -190,7 +220,7 @@ pub fn body_json(alloc: Global, layout: &Layout, body: &Body) -> Result<Value, A
 }
 
 /// The items as children, where the layout has items.
-fn nodes_json(
+pub(crate) fn nodes_json(
     alloc: Global,
     layout: Option<ItemLayout>,
     items: &[Item],

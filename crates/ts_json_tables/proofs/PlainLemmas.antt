@@ -1,6 +1,6 @@
 -- Elements have only whole numbers, and are not deep.
 use Rattle.std.proofs.Common.{◌≡◌, ℕ, suc, ◌≤◌, Bool, true, false, ◌||◌, List, [], ◌∷◌, ◌++◌, map, refl, arith, Ordering, Less, Equal, Greater}
-use Rattle.std.specs.Prelude.{Option, Some, None, nat_eq, if◌then◌else◌}
+use Rattle.std.specs.Prelude.{Option, Some, None, nat_eq, if◌then◌else◌, option_map}
 use Rattle.std.specs.Ordering.{nat_cmp, match_ordering}
 use Rattle.std.specs.Cmp.Lexicographic.{slice_cmp}
 use Rattle.std.proofs.lemmas.Bool.{or_from, or_parts}
@@ -16,10 +16,14 @@ use Rattle.ts_fields.specs.Layout as rows
 use Rattle.ts_fields.specs.Layout.{Row, Held}
 use Rattle.ts_fields.specs.Spelling.{holds}
 use Rattle.ts_fields.specs.Texts.{text_of}
+use Rattle.ts_groups.specs.Groups.{Group}
+use Rattle.ts_item_forms.specs.ItemForms.{Form, FormedHolding, read_formed}
+use Rattle.ts_shown_pages.specs.Extensions.{extension_groups_of, extension_of, extension_tag}
+use Rattle.ts_shown_pages.specs.Pages.{form_of, groups_of, page_of}
 use Rattle.ts_jtree.specs.Elements.{name_key, nodes_key}
 use Rattle.ts_jtree.specs.Shown.{put_attribute, put_attributes, put_number, put_bytes, put_text_of, put_unless, put_nodes, element_base, element_members}
 use Rattle.ts_json_descr.specs.DescrElements as descrs
-use Rattle.ts_json_descr.specs.DescrElements.{body_shown, descr_shown, generic_rows, generic_name, shown_by, typed}
+use Rattle.ts_json_descr.specs.DescrElements.{body_shown, descr_shown, formed_shown, generic_rows, generic_name, page_shown, shown_by, typed}
 use Rattle.ts_table_rows.specs.TablePages.{ItemPage, TablePage}
 use Rattle.ts_table_rows.specs.TableValues.{ItemHolding, BodyHolding}
 use Rattle.ts_json_tables.specs.HeldTables.{ShortHolding, TableValue, laid, short, long}
@@ -182,58 +186,94 @@ own_nodes most (Some i) items =
     array_plain (suc most) (map (descrs.item_shown i) items)
     (each_plain (suc most) (descrs.item_shown i) (λ values. element_plain most i.1 i.0 None values tt) items)
 
-by_page : (most : ℕ) (o : Option (Page × Holding)) (d : TaggedBody) → IsPlain (suc (suc (suc most))) (shown_by o d)
-by_page most None d = element_plain (suc (suc most)) generic_rows generic_name None _ tt
-by_page most (Some x) d = body_plain most x.0 x.1 (own_nodes most x.0.items x.1.items)
+-- the element of a body with items of a form
+formed_plain : (most : ℕ) (p : Page) (h : FormedHolding) → IsPlain (suc (suc (suc (suc (suc most))))) (formed_shown p h)
+formed_plain most p h =
+    element_plain (suc (suc (suc (suc most)))) p.head p.name (Some (array (items_of (map (λ x. body_shown x.0 x.1) h.items)))) h.head
+    (array_plain (suc (suc (suc most))) (map (λ x. body_shown x.0 x.1) h.items)
+    (each_plain (suc (suc (suc most))) (λ x. body_shown x.0 x.1) (λ x. body_plain most x.0 x.1 (own_nodes most x.0.items x.1.items)) h.items))
 
-descr_plain : (most : ℕ) (d : TaggedBody) → IsPlain (suc (suc (suc most))) (descr_shown d)
-descr_plain most d = by_page most (typed d) d
+page_plain : (most : ℕ) (p : Page) (groups : Option (List Group)) (form : Option Form) (from : List Bool)
+    → NodesPlain (suc (suc (suc (suc (suc most))))) (page_shown p groups form from)
+page_plain most p groups None from = go (descrs.read_paged p groups from)
+  where
+    go : (r : Option (Page × Holding)) → NodesPlain (suc (suc (suc (suc (suc most))))) (option_map (λ x. body_shown x.0 x.1) r)
+    go None = tt
+    go (Some x) = body_plain (suc (suc most)) x.0 x.1 (own_nodes (suc (suc most)) x.0.items x.1.items)
+page_plain most p groups (Some f) from = go (read_formed p f from)
+  where
+    go : (r : Option FormedHolding) → NodesPlain (suc (suc (suc (suc (suc most))))) (option_map (formed_shown p) r)
+    go None = tt
+    go (Some h) = formed_plain most p h
+
+by_page : (most : ℕ) (o : Option Page) (groups : ℕ → Option (List Group)) (forms : ℕ → Option Form) (row : List ℕ)
+    → NodesPlain (suc (suc (suc (suc (suc most))))) (descrs.by_page o groups forms row)
+by_page most None groups forms row = tt
+by_page most (Some p) groups forms row = page_plain most p (groups p.tag) (forms p.tag) (bits_of row)
+
+extension_plain : (most : ℕ) (body : List ℕ) → NodesPlain (suc (suc (suc (suc (suc most))))) (descrs.extension_typed body)
+extension_plain most [] = tt
+extension_plain most (tag ∷ row) = by_page most (extension_of tag) extension_groups_of descrs.no_form row
+
+typed_plain : (most : ℕ) (d : TaggedBody) → NodesPlain (suc (suc (suc (suc (suc most))))) (typed d)
+typed_plain most d = go (nat_eq d.tag extension_tag)
+  where
+    go : (b : Bool) → NodesPlain (suc (suc (suc (suc (suc most))))) (if b then descrs.extension_typed d.body else descrs.by_page (page_of d.tag) groups_of form_of d.body)
+    go true = extension_plain most d.body
+    go false = by_page most (page_of d.tag) groups_of form_of d.body
+
+descr_plain : (most : ℕ) (d : TaggedBody) → IsPlain (suc (suc (suc (suc (suc most))))) (descr_shown d)
+descr_plain most d = go (typed d) (typed_plain most d)
+  where
+    go : (o : Option Data) → NodesPlain (suc (suc (suc (suc (suc most))))) o → IsPlain (suc (suc (suc (suc (suc most))))) (shown_by o d)
+    go None plain = element_plain (suc (suc (suc (suc most)))) generic_rows generic_name None _ tt
+    go (Some x) plain = plain
 
 -- ---- tables
 
-described_plain : (described : Bool) (ds : List TaggedBody) → NodesPlain 4 (described_shown described ds)
+described_plain : (described : Bool) (ds : List TaggedBody) → NodesPlain 6 (described_shown described ds)
 described_plain false ds = tt
-described_plain true ds = array_plain 3 (descrs_shown ds) (each_plain 3 descr_shown (descr_plain 0) ds)
+described_plain true ds = array_plain 5 (descrs_shown ds) (each_plain 5 descr_shown (descr_plain 0) ds)
 
-items_plain : (i : Option ItemPage) (items : List ItemHolding) → AllPlain 5 (items_shown i items)
+items_plain : (i : Option ItemPage) (items : List ItemHolding) → AllPlain 7 (items_shown i items)
 items_plain None items = tt
 items_plain (Some i) items =
-    each_plain 5 (item_shown i) (λ x. element_plain 4 i.rows i.name (described_shown i.described x.descriptors) x.values (described_plain i.described x.descriptors)) items
+    each_plain 7 (item_shown i) (λ x. element_plain 6 i.rows i.name (described_shown i.described x.descriptors) x.values (described_plain i.described x.descriptors)) items
 
-children_plain : (p : TablePage) (b : BodyHolding) → IsPlain 6 (array (items_of (children_shown p b)))
+children_plain : (p : TablePage) (b : BodyHolding) → IsPlain 8 (array (items_of (children_shown p b)))
 children_plain p b =
-    array_plain 5 (children_shown p b)
-    (both_plain 5 (descrs_shown b.descriptors) (items_shown p.items (shown_items p.one_zero b.items))
-    (each_plain 5 descr_shown (descr_plain 2) b.descriptors) (items_plain p.items (shown_items p.one_zero b.items)))
+    array_plain 7 (children_shown p b)
+    (both_plain 7 (descrs_shown b.descriptors) (items_shown p.items (shown_items p.one_zero b.items))
+    (each_plain 7 descr_shown (descr_plain 2) b.descriptors) (items_plain p.items (shown_items p.one_zero b.items)))
 
-generic_plain : (s : ShortHolding) → IsPlain 7 (generic_shown s)
-generic_plain s = element_plain 6 _ _ None _ tt
+generic_plain : (s : ShortHolding) → IsPlain 9 (generic_shown s)
+generic_plain s = element_plain 8 _ _ None _ tt
 
-tot_plain : (o : Option OffsetHolding) (s : ShortHolding) → IsPlain 7 (tot_or_bytes o s)
+tot_plain : (o : Option OffsetHolding) (s : ShortHolding) → IsPlain 9 (tot_or_bytes o s)
 tot_plain None s = generic_plain s
 tot_plain (Some t) s =
-    element_plain 6 _ _ (Some (array (items_of (descrs_shown t.descriptors)))) _
-    (array_plain 5 (descrs_shown t.descriptors) (each_plain 5 descr_shown (descr_plain 2) t.descriptors))
+    element_plain 8 _ _ (Some (array (items_of (descrs_shown t.descriptors)))) _
+    (array_plain 7 (descrs_shown t.descriptors) (each_plain 7 descr_shown (descr_plain 2) t.descriptors))
 
-read_plain : (p : Page) (o : Option Holding) (s : ShortHolding) → IsPlain 7 (read_shown p o s)
+read_plain : (p : Page) (o : Option Holding) (s : ShortHolding) → IsPlain 9 (read_shown p o s)
 read_plain p None s = generic_plain s
-read_plain p (Some h) s = body_plain 4 p h (own_nodes 4 p.items h.items)
+read_plain p (Some h) s = body_plain 6 p h (own_nodes 6 p.items h.items)
 
-paged_plain : (o : Option Page) (s : ShortHolding) → IsPlain 7 (paged_shown o s)
+paged_plain : (o : Option Page) (s : ShortHolding) → IsPlain 9 (paged_shown o s)
 paged_plain None s = generic_plain s
 paged_plain (Some p) s = read_plain p (read_page p (bits_of s.payload)) s
 
-short_plain : (s : ShortHolding) → IsPlain 7 (short_shown s)
+short_plain : (s : ShortHolding) → IsPlain 9 (short_shown s)
 short_plain s = go s.own (nat_eq s.table_id tot_id)
   where
-    go : (a b : Bool) → IsPlain 7 (if a then (if b then tot_or_bytes (tot_of s.payload) s else paged_shown (short_page_of s.table_id) s) else generic_shown s)
+    go : (a b : Bool) → IsPlain 9 (if a then (if b then tot_or_bytes (tot_of s.payload) s else paged_shown (short_page_of s.table_id) s) else generic_shown s)
     go true true = tot_plain (tot_of s.payload) s
     go true false = paged_plain (short_page_of s.table_id) s
     go false b = generic_plain s
 
-pub table_plain : (t : TableValue) → IsPlain 7 (table_shown t)
-table_plain (laid p t) = element_plain 6 _ p.name (Some (array (items_of (children_shown p t.body)))) _ (children_plain p t.body)
+pub table_plain : (t : TableValue) → IsPlain 9 (table_shown t)
+table_plain (laid p t) = element_plain 8 _ p.name (Some (array (items_of (children_shown p t.body)))) _ (children_plain p t.body)
 table_plain (short s) = short_plain s
 table_plain (long l) =
-    element_plain 6 _ _ (Some (array (items_of (map section_shown l.payloads)))) _
-    (array_plain 5 (map section_shown l.payloads) (each_plain 5 section_shown (λ row. element_plain 4 _ _ None _ tt) l.payloads))
+    element_plain 8 _ _ (Some (array (items_of (map section_shown l.payloads)))) _
+    (array_plain 7 (map section_shown l.payloads) (each_plain 7 section_shown (λ row. element_plain 6 _ _ None _ tt) l.payloads))

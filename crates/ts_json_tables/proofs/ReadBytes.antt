@@ -19,11 +19,12 @@ use Rattle.ts_fields.specs.Layout.{Held, Row, bytes, number}
 use Rattle.ts_jtree.specs.declared.fault.JsonKind.TheVariants.{OutOfRange, WrongKind}
 use Rattle.ts_jtree.specs.Attributes.{attribute_of, data_attribute, hex_at, hex_attribute, holds_bytes, holds_number, number_attribute, ok_part, read_attributes}
 use Rattle.ts_jtree.specs.Elements.{keys_known, members_of, name_key, name_of, named, no_children, nodes_of}
-use Rattle.ts_jtree.specs.Faults.{Reading, at_child, or_refuse, refuse, ◌>>=◌}
+use Rattle.ts_jtree.specs.Faults.{Reading, at_child, or_refuse, refuse}
 use Rattle.ts_json_descr.specs.DescrElements.{generic_name, generic_page, generic_rows}
 use Rattle.ts_json_descr.specs.DescrReading as descrs
-use Rattle.ts_json_descr.specs.DescrReading.{descr_read, read_extension, read_found, read_generic, read_holding, read_paged, read_typed, tagged}
+use Rattle.ts_json_descr.specs.DescrReading.{descr_read, read_by_page, read_extension, read_formed_holding, read_found, read_generic, read_holding, read_paged, read_typed, tagged}
 use Rattle.ts_groups.specs.Groups.{Group, page_with}
+use Rattle.ts_item_forms.specs.ItemForms.{Form, spell_formed}
 use Rattle.ts_shown_pages.specs.Extensions.{extension_groups_of, extension_named, extension_tag}
 use Rattle.ts_shown_pages.specs.Pages as descr_pages
 use Rattle.ts_shown_pages.specs.Pages.{second_quarter, third_quarter, last_quarter}
@@ -205,6 +206,17 @@ paged_sized p None ms y small is = typed_sized p ms y small is
 paged_sized p (Some groups) ms y small is =
     then_ok (read_attributes p.head ms) _ y is (λ first was later. typed_sized (page_with p groups first) ms y small later)
 
+formed_sized : (p : Page) (f : Form) (ms : Members) (y : ℕ × List Bool) → p.tag < 256 → descrs.read_formed p f ms ≡ Ok y → IsSized y
+unfolding descrs.read_formed
+formed_sized p f ms y small is =
+    then_ok (read_formed_holding p f ms) _ y is (λ h was later.
+    sized_by (nat_lt 2040 (length (spell_formed p h))) p.tag (spell_formed p h) y refl small later)
+
+page_sized : (p : Page) (groups : Option (List Group)) (form : Option Form) (ms : Members) (y : ℕ × List Bool) → p.tag < 256
+    → read_by_page p groups form ms ≡ Ok y → IsSized y
+page_sized p groups None ms y small is = paged_sized p groups ms y small is
+page_sized p groups (Some f) ms y small is = formed_sized p f ms y small is
+
 -- an extension descriptor, whichever its page
 extension_sized : (o : Option Page) (ms : Members) (y : ℕ × List Bool) → read_extension o ms ≡ Ok y → IsSized y
 extension_sized None ms y is = cc
@@ -257,7 +269,7 @@ descr_sized law value y is =
     typed : (ms : Members) (name : List ℕ) (o : Option Page) → descr_pages.page_named name ≡ o → read_found o name ms ≡ Ok y → IsSized y
     typed ms name None at read = extension_sized (extension_named name) ms y read
     typed ms name (Some p) at read =
-        paged_sized p (descr_pages.groups_of p.tag) ms y (found_small (λ q. bytes_eq name q.name) descr_pages.pages p tags_small at) read
+        page_sized p (descr_pages.groups_of p.tag) (descr_pages.form_of p.tag) ms y (found_small (λ q. bytes_eq name q.name) descr_pages.pages p tags_small at) read
 
     by_name : (ms : Members) (name : List ℕ) (b : Bool) → (if b then read_generic ms else read_found (descr_pages.page_named name) name ms) ≡ Ok y → IsSized y
     by_name ms name true read = generic_sized law ms y read

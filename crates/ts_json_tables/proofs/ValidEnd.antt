@@ -10,7 +10,7 @@ use Rattle.ts_fields.specs.Layout.{Held}
 use Rattle.ts_jtree.specs.declared.fault.ReadRefusal.{ReadRefusal}
 use Rattle.ts_jtree.specs.Attributes.{read_attributes}
 use Rattle.ts_jtree.specs.Elements.{keys_known, nodes_of}
-use Rattle.ts_jtree.specs.Faults.{Answers, Reading, ◌>>=◌}
+use Rattle.ts_jtree.specs.Faults.{Answers, Reading}
 use Rattle.ts_table_pages.specs.PsiPages.{entry_page}
 use Rattle.ts_table_rows.specs.BodySpelling.{held_count}
 use Rattle.ts_table_rows.specs.TableFitting.{head_fits, items_fit, own_fit, values_fit}

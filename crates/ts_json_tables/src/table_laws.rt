@@ -15,6 +15,7 @@ ghost use Rattle.ts_json_tables.specs.ToldTables.{IsKept, TellsTable, told_again
 use ts_bits::loops_are_whole_or_cut;
 use ts_fields::{length_of_bits, length_of_read_rows, read_bytes_are_spelled, read_is_written};
 use ts_groups::grouped_is_written;
+use ts_item_forms::formed_is_written;
 use ts_json_descr::shown_descr_is_read;
 use ts_jtree::element_shows;
 use ts_section::made_sections_are_valid;
@@ -33,13 +34,14 @@ pub fn shown_table_is_read()
     read_bytes_are_spelled();
     read_is_written();
     grouped_is_written();
+    formed_is_written();
 }
 
-/// The element of a table has only whole numbers and is at most seven arrays and objects deep, so that `serde_json`
+/// The element of a table has only whole numbers and is at most nine arrays and objects deep, so that `serde_json`
 /// writes its text and reads it again. A law; it runs nothing.
 pub fn shown_table_is_plain()
     ensures whole { (t : TableValue) → has_float (table_shown t) ≡ false }
-    ensures shallow { (t : TableValue) → depth (table_shown t) ≤ 7 }
+    ensures shallow { (t : TableValue) → depth (table_shown t) ≤ 9 }
 {}
 
 /// The table of a run of valid sections has valid descriptors, and bytes below 256. A law; it runs nothing.

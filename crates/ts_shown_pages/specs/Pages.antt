@@ -5,39 +5,38 @@ use Rattle.std.specs.Prelude.{ℕ, List, [], ◌∷◌, nat_eq, bytes_eq, Option
 use Rattle.std.specs.List.{find}
 use Rattle.ts_fields.specs.Bodies.{Page}
 use Rattle.ts_groups.specs.Groups.{Group}
+use Rattle.ts_item_forms.specs.ItemForms.{Form}
 use Rattle.ts_pages.specs.DeliveryPages.{satellite}
 use Rattle.ts_pages.specs.DvbPages.{network_name, service_list, bouquet_name, service, short_event, component, stream_identifier, ca_identifier, content, parental_rating, teletext, subtitling, private_data_specifier}
 use Rattle.ts_pages.specs.MpegPages.{registration, data_stream_alignment, language}
-use Rattle.ts_shown_pages.specs.ShownPages.{video_stream, video_stream_groups, audio_stream, ca, system_clock, multiplex_buffer_utilization, maximum_bitrate, private_data_indicator, smoothing_buffer, std, mpeg4_video, mpeg4_audio, avc_video, mpeg2_aac_audio, hevc_video, hevc_video_groups, stuffing, cable_delivery_system, vbi_data, vbi_teletext, country_availability, linkage, nvod_reference, time_shifted_service, extended_event, time_shifted_event, local_time_offset, terrestrial_delivery_system, multilingual_network_name, multilingual_bouquet_name, multilingual_service_name, multilingual_component, service_move, short_smoothing_buffer, frequency_list, partial_transport_stream, data_broadcast, scrambling, data_broadcast_id, pdc, ac3, ac3_groups, ancillary_data, application_signalling, service_identifier, service_availability, default_authority, s2_satellite_delivery_system, s2_satellite_delivery_system_groups, enhanced_ac3, enhanced_ac3_groups, dts, aac, fta_content_management, logical_channel, hd_simulcast_logical_channel}
+use Rattle.ts_shown_pages.specs.ShownPages.{video_stream, video_stream_groups, audio_stream, ca, system_clock, multiplex_buffer_utilization, maximum_bitrate, private_data_indicator, smoothing_buffer, std, mpeg4_video, mpeg4_audio, avc_video, mpeg2_aac_audio, hevc_video, hevc_video_groups, stuffing, cable_delivery_system, vbi_data, vbi_teletext, country_availability, linkage, nvod_reference, time_shifted_service, extended_event, time_shifted_event, local_time_offset, terrestrial_delivery_system, multilingual_network_name, multilingual_bouquet_name, multilingual_service_name, multilingual_component, service_move, short_smoothing_buffer, frequency_list, partial_transport_stream, data_broadcast, scrambling, data_broadcast_id, pdc, ac3, ac3_groups, ancillary_data, announcement_support, announcement_support_form, application_signalling, service_identifier, service_availability, default_authority, content_identifier, content_identifier_form, s2_satellite_delivery_system, s2_satellite_delivery_system_groups, enhanced_ac3, enhanced_ac3_groups, dts, aac, fta_content_management, logical_channel, logical_channel_v2, logical_channel_v2_form, hd_simulcast_logical_channel}
 
 -- the last quarter of them
 unfoldable pub last_quarter : List Page
 last_quarter =
-    data_broadcast
-    ∷ scrambling
-    ∷ data_broadcast_id
-    ∷ pdc
+    pdc
     ∷ ac3
     ∷ ancillary_data
+    ∷ announcement_support
     ∷ application_signalling
     ∷ service_identifier
     ∷ service_availability
     ∷ default_authority
+    ∷ content_identifier
     ∷ s2_satellite_delivery_system
     ∷ enhanced_ac3
     ∷ dts
     ∷ aac
     ∷ fta_content_management
     ∷ logical_channel
+    ∷ logical_channel_v2
     ∷ hd_simulcast_logical_channel
     ∷ []
 
 -- the third quarter of them, and those after it
 unfoldable pub third_quarter : List Page
 third_quarter =
-    stream_identifier
-    ∷ ca_identifier
-    ∷ content
+    content
     ∷ parental_rating
     ∷ teletext
     ∷ local_time_offset
@@ -52,13 +51,15 @@ third_quarter =
     ∷ short_smoothing_buffer
     ∷ frequency_list
     ∷ partial_transport_stream
+    ∷ data_broadcast
+    ∷ scrambling
+    ∷ data_broadcast_id
     ∷ last_quarter
 
 -- the second quarter of them, and those after it
 unfoldable pub second_quarter : List Page
 second_quarter =
-    network_name
-    ∷ service_list
+    service_list
     ∷ stuffing
     ∷ satellite
     ∷ cable_delivery_system
@@ -74,6 +75,8 @@ second_quarter =
     ∷ extended_event
     ∷ time_shifted_event
     ∷ component
+    ∷ stream_identifier
+    ∷ ca_identifier
     ∷ third_quarter
 
 -- the pages, in the order of their tags
@@ -96,6 +99,7 @@ pages =
     ∷ avc_video
     ∷ mpeg2_aac_audio
     ∷ hevc_video
+    ∷ network_name
     ∷ second_quarter
 
 -- the page of a tag; none where it has none
@@ -119,3 +123,15 @@ grouped =
 -- the groups of further fields of the page of a tag; none where its fields are always the same
 abbrev pub groups_of : ℕ → Option (List Group)
 groups_of tag = option_map (λ g. g.1) (find (λ g. nat_eq tag g.0) grouped)
+
+-- the pages whose items have groups, or items in them: each tag with the form of the items
+abbrev pub formed : List (ℕ × Form)
+formed =
+    (0x6E, announcement_support_form)
+    ∷ (0x76, content_identifier_form)
+    ∷ (0x87, logical_channel_v2_form)
+    ∷ []
+
+-- the form of the items of the page of a tag; none where it has no such items
+abbrev pub form_of : ℕ → Option Form
+form_of tag = option_map (λ f. f.1) (find (λ f. nat_eq tag f.0) formed)

@@ -1,9 +1,10 @@
 -- The pages of descriptors that have no struct, or that JSON shows with reserved bits. Written by tools/pages from pages.txt.
 -- ISO/IEC 13818-1, 2.6, ETSI EN 300 468, 6.2 and its annexes, and the documents that are named.
-use Rattle.std.specs.Prelude.{List, [], ◌∷◌, codes}
+use Rattle.std.specs.Prelude.{List, [], ◌∷◌, codes, Some, None}
 use Rattle.ts_fields.specs.declared.field.Kind.TheVariants.{Number, Decimal, Flag, Start, Language, CountedText, CountedHex, Text, Hex, Reserved, Zeros}
 use Rattle.ts_fields.specs.Bodies.{Page}
 use Rattle.ts_groups.specs.Groups.{Group, always, by_value, false_if_absent}
+use Rattle.ts_item_forms.specs.ItemForms.{Form}
 use Rattle.ts_pages.specs.PageRows.{around_items, field, of_fields, of_items, reserved, with_items}
 
 -- ISO/IEC 13818-1, 2.6.2: how a video component is coded
@@ -417,6 +418,32 @@ ancillary_data = of_fields 0x6B (codes "ancillary_data_descriptor") (
     field (codes "ancillary_data_identifier") (Number 8)
     ∷ [])
 
+-- ETSI EN 300 468, 6.2.3: the announcements that a service has, and where they are
+abbrev pub announcement_support : Page
+announcement_support = of_fields 0x6E (codes "announcement_support_descriptor") (
+    field (codes "announcement_support_indicator") (Number 16)
+    ∷ [])
+
+-- the items of the announcement_support_descriptor
+abbrev pub announcement_support_form : Form
+announcement_support_form = record {
+  name = codes "announcement";
+  head = (
+      field (codes "announcement_type") (Number 4)
+      ∷ field (codes "reserved") (Reserved 1)
+      ∷ field (codes "reference_type") (Number 3)
+      ∷ []);
+  groups =
+      by_value 2 (1 ∷ 2 ∷ 3 ∷ []) (
+      field (codes "original_network_id") (Number 16)
+      ∷ field (codes "transport_stream_id") (Number 16)
+      ∷ field (codes "service_id") (Number 16)
+      ∷ field (codes "component_tag") (Number 8)
+      ∷ [])
+      ∷ [];
+  inner = None;
+}
+
 -- ETSI TS 102 809, 5.3.5.1: the applications whose table a component has
 abbrev pub application_signalling : Page
 application_signalling = of_items 0x6F (codes "application_signalling_descriptor") (codes "application") (
@@ -446,6 +473,29 @@ abbrev pub default_authority : Page
 default_authority = of_fields 0x73 (codes "default_authority_descriptor") (
     field (codes "default_authority") Text
     ∷ [])
+
+-- ETSI TS 102 323, 12.1: the names of contents that an event belongs to
+abbrev pub content_identifier : Page
+content_identifier = of_fields 0x76 (codes "content_identifier_descriptor") []
+
+-- the items of the content_identifier_descriptor
+abbrev pub content_identifier_form : Form
+content_identifier_form = record {
+  name = codes "CRID";
+  head = (
+      field (codes "crid_type") (Number 6)
+      ∷ field (codes "crid_location") (Number 2)
+      ∷ []);
+  groups =
+      by_value 1 (0 ∷ []) (
+      field (codes "crid") CountedText
+      ∷ [])
+      ∷ by_value 1 (1 ∷ []) (
+      field (codes "crid_ref") (Number 16)
+      ∷ [])
+      ∷ [];
+  inner = None;
+}
 
 -- ETSI EN 300 468, 6.2.13.3: what a DVB-S2 receiver needs beside the satellite_delivery_system_descriptor
 abbrev pub s2_satellite_delivery_system : Page
@@ -651,6 +701,31 @@ logical_channel = of_items 0x83 (codes "logical_channel_descriptor") (codes "ser
     ∷ reserved 5
     ∷ field (codes "logical_channel_number") (Number 10)
     ∷ [])
+
+-- NorDig Unified, 12.2.9.3: lists of numbers under which a receiver lists services
+abbrev pub logical_channel_v2 : Page
+logical_channel_v2 = of_fields 0x87 (codes "logical_channel_descriptor_v2") []
+
+-- the items of the logical_channel_descriptor_v2
+abbrev pub logical_channel_v2_form : Form
+logical_channel_v2_form = record {
+  name = codes "list";
+  head = (
+      field (codes "channel_list_id") (Number 8)
+      ∷ field (codes "channel_list_name") CountedText
+      ∷ field (codes "country_code") Language
+      ∷ []);
+  groups = [];
+  inner = Some (
+    codes "service",
+    (
+        field (codes "service_id") (Number 16)
+        ∷ field (codes "visible_service") Flag
+        ∷ reserved 5
+        ∷ field (codes "logical_channel_number") (Number 10)
+        ∷ []),
+  );
+}
 
 -- EACEM TR-030: the numbers of services that replace others in high definition
 abbrev pub hd_simulcast_logical_channel : Page

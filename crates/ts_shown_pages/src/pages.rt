@@ -4,21 +4,23 @@ ghost use Rattle.std.specs.Prelude.{◌≡◌, true, nat_eq, option_map, IfSome,
 ghost use Rattle.std.specs.List.{find};
 ghost use Rattle.ts_fields.specs.Bodies.{page, page_sound, page_exact};
 ghost use Rattle.ts_groups.specs.Groups.{groups_in};
+ghost use Rattle.ts_item_forms.specs.ItemForms.{form};
 ghost use Rattle.ts_shown_pages.specs.Pages;
 ghost use Rattle.ts_shown_pages.specs.Pages.{page_of, page_named, second_quarter, third_quarter, last_quarter};
 
 use crate::shown;
 use ts_fields::Layout;
 use ts_groups::FieldGroup;
+use ts_item_forms::ItemForm;
 use ts_pages::{delivery, dvb, mpeg};
 
 // The tags that have a page, in their order.
-static TAGS: [u8; 68] = [
+static TAGS: [u8; 71] = [
     0x02, 0x03, 0x05, 0x06, 0x09, 0x0A, 0x0B, 0x0C, 0x0E, 0x0F, 0x10, 0x11, 0x1B, 0x1C, 0x28, 0x2B,
     0x38, 0x40, 0x41, 0x42, 0x43, 0x44, 0x45, 0x46, 0x47, 0x48, 0x49, 0x4A, 0x4B, 0x4C, 0x4D, 0x4E,
     0x4F, 0x50, 0x52, 0x53, 0x54, 0x55, 0x56, 0x58, 0x59, 0x5A, 0x5B, 0x5C, 0x5D, 0x5E, 0x5F, 0x60,
-    0x61, 0x62, 0x63, 0x64, 0x65, 0x66, 0x69, 0x6A, 0x6B, 0x6F, 0x71, 0x72, 0x73, 0x79, 0x7A, 0x7B,
-    0x7C, 0x7E, 0x83, 0x88,
+    0x61, 0x62, 0x63, 0x64, 0x65, 0x66, 0x69, 0x6A, 0x6B, 0x6E, 0x6F, 0x71, 0x72, 0x73, 0x76, 0x79,
+    0x7A, 0x7B, 0x7C, 0x7E, 0x83, 0x87, 0x88,
 ];
 
 /// The page of a descriptor_tag; `None` for a tag without a page here.
@@ -45,6 +47,7 @@ pub fn layout_of(tag: u8) -> Option<&'static Layout>
         0x28 => Some(&shown::AVC_VIDEO),
         0x2B => Some(&shown::MPEG2_AAC_AUDIO),
         0x38 => Some(&shown::HEVC_VIDEO),
+        0x40 => Some(&dvb::NETWORK_NAME),
         _ => second_layout(tag),
     }
 }
@@ -57,7 +60,6 @@ fn second_layout(tag: u8) -> Option<&'static Layout>
     ensures exact { IfSome result (λ l. page_exact (page l.now) ≡ true) }
 {
     match tag {
-        0x40 => Some(&dvb::NETWORK_NAME),
         0x41 => Some(&dvb::SERVICE_LIST),
         0x42 => Some(&shown::STUFFING),
         0x43 => Some(&delivery::SATELLITE),
@@ -74,6 +76,8 @@ fn second_layout(tag: u8) -> Option<&'static Layout>
         0x4E => Some(&shown::EXTENDED_EVENT),
         0x4F => Some(&shown::TIME_SHIFTED_EVENT),
         0x50 => Some(&dvb::COMPONENT),
+        0x52 => Some(&dvb::STREAM_IDENTIFIER),
+        0x53 => Some(&dvb::CA_IDENTIFIER),
         _ => third_layout(tag),
     }
 }
@@ -86,8 +90,6 @@ fn third_layout(tag: u8) -> Option<&'static Layout>
     ensures exact { IfSome result (λ l. page_exact (page l.now) ≡ true) }
 {
     match tag {
-        0x52 => Some(&dvb::STREAM_IDENTIFIER),
-        0x53 => Some(&dvb::CA_IDENTIFIER),
         0x54 => Some(&dvb::CONTENT),
         0x55 => Some(&dvb::PARENTAL_RATING),
         0x56 => Some(&dvb::TELETEXT),
@@ -103,6 +105,9 @@ fn third_layout(tag: u8) -> Option<&'static Layout>
         0x61 => Some(&shown::SHORT_SMOOTHING_BUFFER),
         0x62 => Some(&shown::FREQUENCY_LIST),
         0x63 => Some(&shown::PARTIAL_TRANSPORT_STREAM),
+        0x64 => Some(&shown::DATA_BROADCAST),
+        0x65 => Some(&shown::SCRAMBLING),
+        0x66 => Some(&shown::DATA_BROADCAST_ID),
         _ => last_layout(tag),
     }
 }
@@ -115,22 +120,22 @@ fn last_layout(tag: u8) -> Option<&'static Layout>
     ensures exact { IfSome result (λ l. page_exact (page l.now) ≡ true) }
 {
     match tag {
-        0x64 => Some(&shown::DATA_BROADCAST),
-        0x65 => Some(&shown::SCRAMBLING),
-        0x66 => Some(&shown::DATA_BROADCAST_ID),
         0x69 => Some(&shown::PDC),
         0x6A => Some(&shown::AC3),
         0x6B => Some(&shown::ANCILLARY_DATA),
+        0x6E => Some(&shown::ANNOUNCEMENT_SUPPORT),
         0x6F => Some(&shown::APPLICATION_SIGNALLING),
         0x71 => Some(&shown::SERVICE_IDENTIFIER),
         0x72 => Some(&shown::SERVICE_AVAILABILITY),
         0x73 => Some(&shown::DEFAULT_AUTHORITY),
+        0x76 => Some(&shown::CONTENT_IDENTIFIER),
         0x79 => Some(&shown::S2_SATELLITE_DELIVERY_SYSTEM),
         0x7A => Some(&shown::ENHANCED_AC3),
         0x7B => Some(&shown::DTS),
         0x7C => Some(&shown::AAC),
         0x7E => Some(&shown::FTA_CONTENT_MANAGEMENT),
         0x83 => Some(&shown::LOGICAL_CHANNEL),
+        0x87 => Some(&shown::LOGICAL_CHANNEL_V2),
         0x88 => Some(&shown::HD_SIMULCAST_LOGICAL_CHANNEL),
         _ => None,
     }
@@ -163,6 +168,19 @@ pub fn groups_of(tag: u8) -> Option<&'static [FieldGroup]>
         0x6A => Some(shown::AC3_GROUPS),
         0x79 => Some(shown::S2_SATELLITE_DELIVERY_SYSTEM_GROUPS),
         0x7A => Some(shown::ENHANCED_AC3_GROUPS),
+        _ => None,
+    }
+}
+
+/// The form of the items of the page of a descriptor_tag, whose first fields say which others they have, or which have items
+/// in them; `None` where it has no such items.
+pub fn form_of(tag: u8) -> Option<&'static ItemForm>
+    ensures { option_map (λ f. form f.now) result ≡ Pages.form_of tag }
+{
+    match tag {
+        0x6E => Some(&shown::ANNOUNCEMENT_SUPPORT_FORM),
+        0x76 => Some(&shown::CONTENT_IDENTIFIER_FORM),
+        0x87 => Some(&shown::LOGICAL_CHANNEL_V2_FORM),
         _ => None,
     }
 }

@@ -2,6 +2,7 @@
 
 use ts_fields::{Field, ItemLayout, Kind, Layout};
 use ts_groups::{Condition, FieldGroup};
+use ts_item_forms::ItemForm;
 use ts_pages::rows;
 
 /// How a video component is coded (ISO/IEC 13818-1, 2.6.2).
@@ -809,6 +810,40 @@ pub static ANCILLARY_DATA: Layout = Layout {
     counted: None,
 };
 
+/// The announcements that a service has, and where they are (ETSI EN 300 468, 6.2.3).
+pub static ANNOUNCEMENT_SUPPORT: Layout = Layout {
+    tag: 0x6E,
+    name: "announcement_support_descriptor",
+    head: rows! {
+        "announcement_support_indicator" Number(16);
+    },
+    items: None,
+    counted: None,
+};
+
+/// The items of the announcement_support_descriptor (ETSI EN 300 468, 6.2.3).
+pub static ANNOUNCEMENT_SUPPORT_FORM: ItemForm = ItemForm {
+    name: "announcement",
+    head: rows! {
+        "announcement_type" Number(4);
+        "reserved" Reserved(1);
+        "reference_type" Number(3);
+    },
+    groups: &[FieldGroup {
+        when: Some(Condition {
+            place: 2,
+            values: &[1, 2, 3],
+        }),
+        rows: rows! {
+                "original_network_id" Number(16);
+                "transport_stream_id" Number(16);
+                "service_id" Number(16);
+                "component_tag" Number(8);
+            },
+    }],
+    inner: None,
+};
+
 /// The applications whose table a component has (ETSI TS 102 809, 5.3.5.1).
 pub static APPLICATION_SIGNALLING: Layout = Layout {
     tag: 0x6F,
@@ -863,6 +898,45 @@ pub static DEFAULT_AUTHORITY: Layout = Layout {
     },
     items: None,
     counted: None,
+};
+
+/// The names of contents that an event belongs to (ETSI TS 102 323, 12.1).
+pub static CONTENT_IDENTIFIER: Layout = Layout {
+    tag: 0x76,
+    name: "content_identifier_descriptor",
+    head: rows! {},
+    items: None,
+    counted: None,
+};
+
+/// The items of the content_identifier_descriptor (ETSI TS 102 323, 12.1).
+pub static CONTENT_IDENTIFIER_FORM: ItemForm = ItemForm {
+    name: "CRID",
+    head: rows! {
+        "crid_type" Number(6);
+        "crid_location" Number(2);
+    },
+    groups: &[
+        FieldGroup {
+            when: Some(Condition {
+                place: 1,
+                values: &[0],
+            }),
+            rows: rows! {
+                "crid" CountedText;
+            },
+        },
+        FieldGroup {
+            when: Some(Condition {
+                place: 1,
+                values: &[1],
+            }),
+            rows: rows! {
+                "crid_ref" Number(16);
+            },
+        },
+    ],
+    inner: None,
 };
 
 /// What a DVB-S2 receiver needs beside the satellite_delivery_system_descriptor (ETSI EN 300 468, 6.2.13.3).
@@ -1332,6 +1406,35 @@ pub static LOGICAL_CHANNEL: Layout = Layout {
         },
     }),
     counted: None,
+};
+
+/// Lists of numbers under which a receiver lists services (NorDig Unified, 12.2.9.3).
+pub static LOGICAL_CHANNEL_V2: Layout = Layout {
+    tag: 0x87,
+    name: "logical_channel_descriptor_v2",
+    head: rows! {},
+    items: None,
+    counted: None,
+};
+
+/// The items of the logical_channel_descriptor_v2 (NorDig Unified, 12.2.9.3).
+pub static LOGICAL_CHANNEL_V2_FORM: ItemForm = ItemForm {
+    name: "list",
+    head: rows! {
+        "channel_list_id" Number(8);
+        "channel_list_name" CountedText;
+        "country_code" Language;
+    },
+    groups: &[],
+    inner: Some(ItemLayout {
+        name: "service",
+        rows: rows! {
+            "service_id" Number(16);
+            "visible_service" Flag;
+            "" Ones(5);
+            "logical_channel_number" Number(10);
+        },
+    }),
 };
 
 /// The numbers of services that replace others in high definition (EACEM TR-030).

@@ -10,5 +10,6 @@ returns c = λ d small is short.
       children = c.element_shows.ensures.children;
       lengths = c.length_of_bits.ensures.bytes;
       written = c.read_is_written.ensures;
+      formed = c.formed_is_written.ensures;
       grouped = c.grouped_is_written.ensures;
     }) d small is short

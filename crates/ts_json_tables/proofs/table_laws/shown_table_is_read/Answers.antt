@@ -19,6 +19,7 @@ returns c = λ t is well.
         children = c.element_shows.ensures.children;
         lengths = c.length_of_bits.ensures.bytes;
         written = c.read_is_written.ensures;
+        formed = c.formed_is_written.ensures;
         grouped = c.grouped_is_written.ensures;
       });
       offsets = record {
