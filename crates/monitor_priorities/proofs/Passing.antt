@@ -12,12 +12,13 @@ use Rattle.monitor_keys.specs.declared.span.Span.{Span}
 use Rattle.monitor_keys.specs.Keys.{KeyRule, gap_on, span_on}
 use Rattle.monitor_keys.specs.KeyState.{IsKey}
 use Rattle.monitor_keys.specs.Looks.{is_look}
+use Rattle.monitor_lines.specs.declared.indicator.Indicator.{Indicator}
 use Rattle.monitor_lines.specs.declared.monitor_error.MonitorError.{MonitorError}
 use Rattle.monitor_services.proofs.Naming.{live-more}
 use Rattle.monitor_tables.specs.ReaderStands.{HasRead}
 use Rattle.monitor_tables.specs.declared.section_reader.SectionReader.{SectionReader}
 use Rattle.monitor_tables.specs.TableIds.{has_table, sections_with, strangers_in}
-use Rattle.monitor_priorities.specs.RowErrors.{gap_error, table_error, table_errors}
+use Rattle.monitor_priorities.specs.RowErrors.{gap_error, stranger_errors, table_error, table_errors}
 use Rattle.monitor_priorities.specs.RowsStand.{IsTableRow}
 use Rattle.monitor_priorities.specs.declared.table_row.TableRow.{TableRow}
 
@@ -54,6 +55,13 @@ module _ (reader : SectionReader) (pid : ℕ) (fed : List (List ℕ)) (packet : 
   gives_none =
       ap (drop (length (sections_of_pid pid fed))) same_sections
       ∙ drop_of_length-le (sections_of_pid pid fed) (omega arith)
+
+-- no section is a stranger
+pub no_strangers : (indicator : Indicator) (pid : ℕ) (history : List Cell) (packet : List ℕ) (errors : List MonitorError)
+    → sections_with pid (live_packets history) packet ≡ [] → errors ≡ errors ++ stranger_errors indicator pid history packet
+no_strangers indicator pid history packet errors none =
+    sym (append-nil errors)
+    ∙ ap (λ (sections : List (List ℕ)). errors ++ map (table_error indicator (length history)) (strangers_in pid sections)) (sym none)
 
 -- ---- a row and a packet on another PID that has no PCR that is read
 

@@ -1,11 +1,11 @@
 //! The row of a PID on which some tables may come, of which none has to.
 ghost use Rattle.std.specs.Prelude.{◌≡◌, ◌++◌, OnOk};
 
-use crate::reading::read_on;
 use crate::telling::tell_tables;
 use monitor_lines::{Indicator, MonitorError};
 use monitor_tables::{SectionReader, strangers};
 use std::alloc::{AllocError, Global};
+use ts_demux::other_packets_change_nothing;
 use ts_packet::{PID_COUNT, Packet};
 
 /// What is kept of a PID on which only some tables may come: those of EITs and RSTs (ETSI TR 101 290, 5.2.3).
@@ -53,7 +53,13 @@ impl SectionRow {
         ensures tells { OnOk result ((pid : ℕ) (indicator : _) (history : List Cell) → IsSectionRow self.old pid indicator history
             → length history ≡ at → errors.new.items ≡ errors.old.items ++ stranger_errors indicator pid history packet.now) }
     {
-        let sections = read_on(self.alloc, &mut self.reader, self.pid, packet)?;
+        // Nearly all packets are on other PIDs.
+        if packet.pid() != self.pid {
+            // A law, which runs nothing.
+            other_packets_change_nothing();
+            return Ok(());
+        }
+        let sections = self.reader.read(packet)?;
         let others = strangers(self.alloc, self.pid, &sections)?;
         tell_tables(errors, at, self.indicator, &others)?;
         Ok(())

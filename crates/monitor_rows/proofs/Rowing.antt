@@ -401,6 +401,28 @@ renamed rule old new history packet labels numbers has limit_is are same each = 
   each = each;
 }
 
+-- the first keys have the first numbers, and one more
+pub agree_more : (keys : List RowKey) (numbers : List ℕ) (i : ℕ) (kept : RowKey) → i < length keys → i < length numbers → kept ≡ get_or keys i kept
+    → kept.number ≡ get_or numbers i 0 → numbers_in (take i keys) ≡ take i numbers → numbers_in (take (i + 1) keys) ≡ take (i + 1) numbers
+agree_more keys numbers i kept in_keys within kept_is same so_far =
+    ap numbers_in (take_more keys i kept in_keys)
+    ∙ numbers_more (take i keys) (get_or keys i kept) numbers i within so_far (ap (λ (k : RowKey). k.number) (sym kept_is) ∙ same)
+
+-- where the same keys are named, they are kept
+pub kept_names : (rule : RowRule) (row : KeyRow) (history : List Cell) (packet : List ℕ) (labels : ℕ) (numbers : List ℕ) → IsRow rule row history
+    → numbers ≡ numbers_named rule (live_packets history ++ packet ∷ []) → numbers_in row.keys.items ≡ numbers
+    → HasKeys rule row history (history ++ Live packet labels ∷ [])
+kept_names rule row history packet labels numbers has are same =
+    renamed rule row row history packet labels numbers has refl are same
+    (λ i d within. goes_on rule row history packet labels (get_or row.keys.items i d).number has i d within refl (named i d within))
+  where
+    named : (i : ℕ) (d : RowKey) → i < length row.keys.items → rule.names (live_packets history ++ packet ∷ []) (get_or row.keys.items i d).number ≡ true
+    named i d within =
+        subst (λ (n : ℕ). rule.names (live_packets history ++ packet ∷ []) n ≡ true)
+        (ap (λ (ns : List ℕ). get_or ns i 0) (sym (same ∙ are)) ∙ number_at row.keys.items i d 0 within)
+        (chosen_are (rule.names (live_packets history ++ packet ∷ [])) rule.bound i 0
+        (omega (arith, within, length-map row.keys.items (λ (k : RowKey). k.number), ap (λ (ns : List ℕ). length ns) (same ∙ are)))).1
+
 -- before any
 pub no_row : (rule : RowRule) (row : KeyRow) → row.limit ≡ rule.limit → row.keys.items ≡ [] → ((n : ℕ) → rule.names [] n ≡ false) → IsRow rule row []
 no_row rule row limit_is no_keys none = record {

@@ -8,7 +8,8 @@ use monitor_keys::{Gap, Key, KeyLimit, Span};
 use std::alloc::{AllocError, Global};
 
 /// What is kept of a row of keys: of each that the tables in force name, and of no other. So its memory is that of as many keys
-/// as the tables name, and is taken where tables come into force; no packet takes more but for what is told with it.
+/// as the tables name, and is taken where tables come into force that name others; no packet takes more but for what is told
+/// with it.
 ///
 /// Only a packet with a PCR that the stream's clock reads is looked at with each key; any other one goes to the key that occurs
 /// on it, which is searched for among the numbers.
@@ -50,6 +51,10 @@ impl KeyRow {
             → at ≡ length history → numbers.now ≡ numbers_named rule (live_packets history ++ packet ∷ [])
             → HasKeys rule self.new history (history ++ Live packet labels ∷ [])) }
     {
+        // Tables come again and again, and nearly always name what the ones before them did.
+        if self.has_numbers(numbers) {
+            return Ok(());
+        }
         self.keys = self.keys_of(at, numbers)?;
         Ok(())
     }
@@ -75,6 +80,23 @@ impl KeyRow {
             }
             _ => self.meet_each(span, occurred),
         }
+    }
+
+    // Whether the keys are those of these numbers.
+    fn has_numbers(&self, numbers: &[u32]) -> bool
+        ensures { result ≡ true → numbers_in self.now.keys.items ≡ numbers.now }
+    {
+        if self.keys.len() != numbers.len() {
+            return false;
+        }
+        for i in 0..numbers.len() {
+            let kept = self.keys[i].number;
+            let number = numbers[i];
+            if kept != number {
+                return false;
+            }
+        }
+        true
     }
 
     // The keys of these numbers, with the packet at a position.

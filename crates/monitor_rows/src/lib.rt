@@ -12,5 +12,6 @@ pub use key_row::KeyRow;
 pub use row_gap::RowGap;
 pub use row_key::RowKey;
 pub use row_laws::{
-    a_dropped_cell_leaves_the_row, an_errored_packet_leaves_the_row, names_that_stay_leave_the_row,
+    a_dropped_cell_leaves_the_row, a_packet_without_news_leaves_the_row,
+    an_errored_packet_leaves_the_row, names_that_stay_leave_the_row,
 };

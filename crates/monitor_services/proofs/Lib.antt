@@ -1,4 +1,5 @@
 pub mod Adding
+pub mod Speaking
 pub mod Sorting
 pub mod Naming
 pub mod Starting

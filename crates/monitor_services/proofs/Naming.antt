@@ -18,16 +18,17 @@ use Rattle.plug_psi.proofs.FoundLemmas.{found-none}
 use Rattle.monitor_keys.specs.declared.key_limit.KeyLimit.{KeyLimit}
 use Rattle.monitor_keys.specs.declared.span.Span.{Span}
 use Rattle.monitor_keys.specs.Keys.{span_on}
-use Rattle.monitor_tables.specs.TableIds.{sections_with}
+use Rattle.monitor_keys.specs.Looks.{is_look}
+use Rattle.monitor_tables.specs.TableIds.{is_scrambled, sections_with}
 use Rattle.monitor_lines.specs.declared.monitor_error.MonitorError.{MonitorError}
 use Rattle.monitor_rows.specs.declared.key_row.KeyRow.{KeyRow}
 use Rattle.monitor_rows.specs.declared.row_gap.RowGap.{RowGap}
-use Rattle.monitor_rows.specs.KeyRows.{has_number}
-use Rattle.monitor_rows.specs.RowStands.{HasKeys, IsRow}
+use Rattle.monitor_rows.specs.KeyRows.{RowRule, has_number}
+use Rattle.monitor_rows.specs.RowStands.{AreOccurring, HasKeys, IsRow, SameNames}
 use Rattle.monitor_rows.proofs.Rowing.{names_stay}
 use Rattle.monitor_services.specs.GapErrors.{gap_errors}
-use Rattle.monitor_services.specs.PidErrors.{pid_rule, pids_by, pids_named, pids_of, tells_ends}
-use Rattle.monitor_services.specs.PmtErrors.{pat_numbers, pmt_rule, pmts_come, pmts_named, section_number}
+use Rattle.monitor_services.specs.PidErrors.{is_one, pid_if, pid_rule, pids_by, pids_named, pids_of, tells_ends}
+use Rattle.monitor_services.specs.PmtErrors.{pat_numbers, pmt_rule, pmts_come, pmts_named, scrambled_error, scrambled_errors, section_number}
 use Rattle.monitor_services.specs.declared.limits.TheConstants.{PMT_NUMBERS}
 use Rattle.monitor_services.specs.declared.pid_kind.PidKind.{PidKind}
 use Rattle.monitor_services.specs.declared.row_kind.RowKind.{RowKind}
@@ -119,7 +120,45 @@ pids-stay kind units pcr_pid keys history packet labels has same =
     names_stay (pid_rule kind units pcr_pid) keys history packet labels has
     (λ n less. ap (λ (pids : List ℕ). has_number pids n) (pids-same kind (live_packets history) packet same))
 
+-- with a packet on which none of its keys occurs
+pub no-key : (packet : List ℕ) (is : Bool) (n : ℕ) → is ≡ false → has_number [] n ≡ has_number (pid_if is packet) n
+no-key packet is n none = sym (ap (λ (b : Bool). has_number (pid_if b packet) n) none)
+
+-- ---- a packet on which no key of a row occurs, which has no PCR that is read, and with which the same tables are in force
+
+module _ (history : List Cell) (packet : List ℕ) (labels : ℕ) (same : SameInForce (live_packets history) packet)
+    (leaves : (rule : RowRule) (row : KeyRow) (history : List Cell) (packet : List ℕ) (labels : ℕ) → IsRow rule row history
+    → is_look (span_on rule.pcr_pid history packet) ≡ false → SameNames rule history packet → AreOccurring rule history packet []
+    → IsRow rule row (history ++ Live packet labels ∷ [])) where
+  pub quiet-pids : (kind : PidKind) (units : ℕ) (pcr_pid : Option ℕ) (keys : KeyRow) → IsRow (pid_rule kind units pcr_pid) keys history
+      → is_look (span_on pcr_pid history packet) ≡ false → is_one kind packet ≡ false
+      → IsRow (pid_rule kind units pcr_pid) keys (history ++ Live packet labels ∷ [])
+  quiet-pids kind units pcr_pid keys has no_look none =
+      leaves (pid_rule kind units pcr_pid) keys history packet labels has no_look
+      (λ n less. ap (λ (pids : List ℕ). has_number pids n) (pids-same kind (live_packets history) packet same))
+      (λ n. no-key packet (is_one kind packet) n none)
+
+  pub quiet-pmts : (pcr_pid : Option ℕ) (keys : KeyRow) → IsRow (pmt_rule pcr_pid) keys history
+      → is_look (span_on pcr_pid history packet) ≡ false → follows (pid_of packet) (live_packets history ++ packet ∷ []) ≡ false
+      → IsRow (pmt_rule pcr_pid) keys (history ++ Live packet labels ∷ [])
+  quiet-pmts pcr_pid keys has no_look unfollowed =
+      leaves (pmt_rule pcr_pid) keys history packet labels has no_look
+      (λ n less. ap (λ (pat : Option TableHolding). has_number (pat_numbers pat) n) same.pat)
+      (λ n. ap (λ (ns : List ℕ). has_number ns n) (no-pmts (live_packets history) packet unfollowed))
+
 -- ---- errors
+
+-- none where no gap is told
+pub none-told : (kind : RowKind) (known : ℕ) (gaps : List RowGap) (errors : List MonitorError) → gaps ≡ [] → errors ≡ errors ++ gap_errors kind known gaps
+none-told kind known gaps errors none = sym (append-nil errors) ∙ ap (λ (gs : List RowGap). errors ++ gap_errors kind known gs) (sym none)
+
+-- nor is an error of a scrambled packet, where that is on no PID of a PMT
+pub none-scrambled : (history : List Cell) (packet : List ℕ) (errors : List MonitorError) → follows (pid_of packet) (live_packets history ++ packet ∷ []) ≡ false
+    → errors ≡ errors ++ scrambled_errors history packet
+none-scrambled history packet errors unfollowed =
+    sym (append-nil errors)
+    ∙ ap (λ (b : Bool). errors ++ (if b then scrambled_error (length history) (pid_of packet) ∷ [] else []))
+    (sym (and_right (is_scrambled packet) (follows (pid_of packet) (live_packets history ++ packet ∷ [])) unfollowed))
 
 -- those of the gaps that are told with a packet
 pub told-of : (kind : RowKind) (known : ℕ) (told gaps : List RowGap) (history : List Cell) (old new : List MonitorError) → known ≡ length history

@@ -17,6 +17,9 @@ use ts_psi::Component;
 /// The stream_type of private data in PES packets.
 const PRIVATE_DATA: u8 = 6;
 
+/// The tag of an ISO_639_language_descriptor (ISO/IEC 13818-1, 2.6.18).
+const LANGUAGE: u8 = 10;
+
 /// Adds the PIDs of those components that have sound or picture.
 pub(crate) fn add_sounding(
     alloc: Global,
@@ -105,6 +108,10 @@ fn may_pause(alloc: Global, descriptors: &[Descriptor]) -> Result<bool, AllocErr
 fn is_special(alloc: Global, descriptor: &Descriptor) -> Result<bool, AllocError>
     ensures { IfOk result (λ is. is ≡ components_by.has_special (read_typed mpeg_pages descriptor.now)) }
 {
+    // Most descriptors are others, and need not be read.
+    if descriptor.tag() != LANGUAGE {
+        return Ok(false);
+    }
     match MpegDescr::read(alloc, descriptor)? {
         Some(MpegDescr::Iso639Language(languages)) => Ok(has_audio_type(&languages)),
         _ => Ok(false),

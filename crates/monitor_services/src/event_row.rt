@@ -1,7 +1,9 @@
 //! Errors of EITs present/following.
-ghost use Rattle.std.specs.Prelude.{◌≡◌, ◌++◌, ◌∷◌, [], ℕ, List, Option, OnOk, length};
+ghost use Rattle.std.specs.Prelude.{◌≡◌, ◌++◌, ◌∷◌, ◌==◌, ◌&&◌, [], ℕ, List, Option, OnOk, length, not};
 ghost use Rattle.ts_packet.specs.declared.cell.Cell.{Cell};
 ghost use Rattle.ts_packet.specs.Cells.{Live, live_packets};
+ghost use Rattle.ts_packet.specs.Header.{pid_of};
+ghost use Rattle.monitor_keys.specs.Looks.{is_look};
 ghost use Rattle.monitor_services.specs.CurrentSdt.{HasFedSdt};
 ghost use Rattle.monitor_rows.specs.RowStands.{HasKeys, IsRow};
 ghost use Rattle.monitor_services.specs.EventErrors.{event_rule};
@@ -12,8 +14,9 @@ use crate::limits::EVENT_LIMIT;
 use crate::row_kind::{RowKind, add_gaps};
 use monitor_keys::{KeyLimit, Span};
 use monitor_lines::MonitorError;
-use monitor_rows::KeyRow;
+use monitor_rows::{KeyRow, a_packet_without_news_leaves_the_row};
 use std::alloc::{AllocError, Global};
+use ts_demux::{other_packets_complete_nothing, uncounted_packets_change_nothing};
 use ts_packet::Packet;
 use ts_section::Section;
 
@@ -67,6 +70,13 @@ impl EventRow {
             → span.now ≡ span_on pcr_pid history packet.now → sections.now ≡ sections_with 18 (live_packets history) packet.now
             → errors.new.items ≡ errors.old.items ++ event_errors pcr_pid history packet.now) }
     {
+        if is_idle(span, packet, sections) {
+            // Laws, which run nothing.
+            uncounted_packets_change_nothing();
+            other_packets_complete_nothing();
+            a_packet_without_news_leaves_the_row();
+            return Ok(());
+        }
         self.sdt.feed(span.at, packet)?;
         rename(self.alloc, &mut self.keys, span.at, packet, &self.sdt)?;
         let came = numbers_of_sections(self.alloc, sections)?;
@@ -74,6 +84,14 @@ impl EventRow {
         add_gaps(errors, RowKind::Events, span.at, &gaps)?;
         Ok(())
     }
+}
+
+// Whether the packet of a span has no PCR that is read, is not on the PID of the SDT, and completes no section of an EIT.
+#[inline]
+fn is_idle(span: &Span, packet: &Packet, sections: &[Section]) -> bool
+    ensures { result ≡ (not (is_look span.now) && (not (pid_of packet.now == 17) && length sections.now == 0)) }
+{
+    !span.is_look() && packet.pid() != SDT_PID && sections.is_empty()
 }
 
 // Names the keys of the SDT in force, where one may have come with the packet at a position.

@@ -12,10 +12,10 @@ use crate::occurrences::{is_one, meet_if};
 use crate::pid_kind::PidKind;
 use crate::pid_numbers::pids_in_order;
 use crate::row_kind::{RowKind, add_gaps};
-use crate::tables_come::may_bring_tables;
+use crate::tables_come::{is_idle, may_bring_tables};
 use monitor_keys::{KeyLimit, Span};
 use monitor_lines::MonitorError;
-use monitor_rows::KeyRow;
+use monitor_rows::{KeyRow, a_packet_without_news_leaves_the_row};
 use plug_psi::InForce;
 use std::alloc::{AllocError, Global};
 use ts_packet::Packet;
@@ -74,6 +74,12 @@ impl PidRow {
             → Forced force.now (live_packets history ++ packet.now ∷ [])
             → errors.new.items ≡ errors.old.items ++ pid_errors kind units pcr_pid history packet.now) }
     {
+        let occurs = is_one(self.kind, packet);
+        if is_idle(span, packet, force, occurs) {
+            // A law, which runs nothing.
+            a_packet_without_news_leaves_the_row();
+            return Ok(());
+        }
         rename(
             self.alloc,
             &mut self.keys,
@@ -82,7 +88,7 @@ impl PidRow {
             packet,
             force,
         )?;
-        let gaps = meet_if(&mut self.keys, span, packet, is_one(self.kind, packet))?;
+        let gaps = meet_if(&mut self.keys, span, packet, occurs)?;
         add_gaps(errors, kind_of_row(self.kind), span.at, &gaps)?;
         Ok(())
     }

@@ -11,10 +11,10 @@ use crate::limits::PMT_LIMIT;
 use crate::pmt_numbers::{numbers_in_order, numbers_of_sections};
 use crate::pmt_reader::PmtReader;
 use crate::row_kind::{RowKind, add_gaps};
-use crate::tables_come::PAT_PID;
+use crate::tables_come::{PAT_PID, is_idle};
 use monitor_keys::{KeyLimit, Span};
 use monitor_lines::{Detail, Indicator, MonitorError};
-use monitor_rows::KeyRow;
+use monitor_rows::{KeyRow, a_packet_without_news_leaves_the_row};
 use monitor_tables::is_scrambled;
 use plug_psi::{ByPid, InForce, unfollowed_packets_change_nothing};
 use std::alloc::{AllocError, Global};
@@ -71,6 +71,12 @@ impl PmtRow {
             → span.now ≡ span_on pcr_pid history packet.now → Forced force.now (live_packets history ++ packet.now ∷ [])
             → errors.new.items ≡ errors.old.items ++ pmt_errors pcr_pid history packet.now) }
     {
+        if is_idle(span, packet, force, false) {
+            // Laws, which run nothing.
+            unfollowed_packets_change_nothing::<PmtReader>();
+            a_packet_without_news_leaves_the_row();
+            return Ok(());
+        }
         rename(self.alloc, &mut self.keys, span.at, packet, force)?;
         let came = read(self.alloc, &mut self.readers, span.at, packet, force)?;
         let gaps = self.keys.meet(span, &came)?;

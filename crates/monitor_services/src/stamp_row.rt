@@ -10,10 +10,10 @@ use crate::occurrences::{has_stamp, meet_if};
 use crate::pid_kind::PidKind;
 use crate::pid_numbers::pids_in_order;
 use crate::row_kind::{RowKind, add_gaps};
-use crate::tables_come::may_bring_tables;
+use crate::tables_come::{is_idle, may_bring_tables};
 use monitor_keys::{KeyLimit, Span};
 use monitor_lines::MonitorError;
-use monitor_rows::KeyRow;
+use monitor_rows::{KeyRow, a_packet_without_news_leaves_the_row};
 use monitor_tables::is_scrambled;
 use plug_psi::InForce;
 use std::alloc::{AllocError, Global};
@@ -75,8 +75,14 @@ impl StampRow {
             → span.now ≡ span_on pcr_pid history packet.now → Forced force.now (live_packets history ++ packet.now ∷ [])
             → errors.new.items ≡ errors.old.items ++ stamp_errors pcr_pid history packet.now) }
     {
+        let occurs = is_stamp(packet);
+        if is_idle(span, packet, force, occurs) {
+            // A law, which runs nothing.
+            a_packet_without_news_leaves_the_row();
+            return Ok(());
+        }
         self.rename(span.at, packet, force)?;
-        let gaps = meet_if(&mut self.keys, span, packet, is_stamp(packet))?;
+        let gaps = meet_if(&mut self.keys, span, packet, occurs)?;
         add_gaps(errors, RowKind::Stamps, span.at, &gaps)?;
         Ok(())
     }
@@ -92,7 +98,7 @@ impl StampRow {
             self.start(at, packet)?;
             return Ok(());
         }
-        if is_first(packet, &self.started) {
+        if is_first(packet, &self.components, &self.started) {
             self.start(at, packet)?;
         }
         Ok(())
@@ -119,11 +125,19 @@ fn is_stamp(packet: &Packet) -> bool
     has_stamp(packet) || is_scrambled(packet)
 }
 
-// Whether a packet has a time stamp, and its PID is not waited for yet.
-fn is_first(packet: &Packet, started: &[u32]) -> bool
-    ensures { result ≡ (stamps.has_stamp packet.now && not (has_number started.now (pid_of packet.now))) }
+// Whether a packet has a time stamp, and its PID is that of a component and not waited for yet.
+fn is_first(packet: &Packet, components: &[u32], started: &[u32]) -> bool
+    ensures { result ≡ (stamps.has_stamp packet.now
+        && (has_number components.now (pid_of packet.now) && not (has_number started.now (pid_of packet.now)))) }
 {
-    has_stamp(packet) && !started.contains(&u32::from(packet.pid()))
+    has_stamp(packet) && is_among(packet, components) && !is_among(packet, started)
+}
+
+// Whether the PID of a packet is among these.
+fn is_among(packet: &Packet, pids: &[u32]) -> bool
+    ensures { result ≡ has_number pids.now (pid_of packet.now) }
+{
+    pids.contains(&u32::from(packet.pid()))
 }
 
 // Those PIDs of components that were waited for, or have a time stamp with a packet.

@@ -1,5 +1,5 @@
 -- What a value of `monitor` keeps, and the cells that it stands for. This project's own rule.
-use Rattle.std.specs.Prelude.{◌≡◌, ◌≤◌, ℕ, Bool, false, List, length}
+use Rattle.std.specs.Prelude.{◌≡◌, ◌≤◌, ℕ, Bool, false, List, length, Option, None}
 use Rattle.ts_packet.specs.declared.cell.Cell.{Cell}
 use Rattle.chain_model.specs.declared.positions.TheConstants.{POSITION_LIMIT}
 use Rattle.plugin_notes.specs.NotesKept.{KeepsNotes, notes_below}
@@ -27,3 +27,11 @@ StandsFor s history mark = Monitors s.conf s.watch s.counts s.notes.items s.fail
 -- whether a step ran out of memory
 abbrev pub has_failed : Monitor → Bool
 has_failed s = s.failed
+
+-- it names no number of positions at which it never runs out of memory, since tables and errors need some
+abbrev pub preallocated_of : Monitor → Option ℕ
+preallocated_of s = None
+
+-- on how many packets it has room for notes
+abbrev pub room_of : Monitor → ℕ
+room_of s = s.notes.capacity

@@ -40,7 +40,7 @@ impl Monitor {
     ghost use Rattle.plugin_trait.specs.Steps.{MeetsCells};
     ghost use Rattle.plug_monitor.specs.MonitorRule.{monitor_rule};
     ghost use Rattle.plug_monitor.specs.MonitorSettings.{IsValidMonitor};
-    ghost use Rattle.plug_monitor.specs.MonitorState.{StandsFor, has_failed};
+    ghost use Rattle.plug_monitor.specs.MonitorState.{StandsFor, has_failed, room_of};
 
     /// A new plugin, which has processed no cell. It allocates what is kept of each PID, and room for notes on as many packets as
     /// the buffer holds; what it keeps of tables and services grows with those of the stream.
@@ -49,6 +49,7 @@ impl Monitor {
         ensures rule { IfOk result (λ plugin. ⟦<Monitor as Plugin>⟧.rule plugin ≡ monitor_rule conf.now) }
         ensures fresh { IfOk result (λ plugin. ⟦<Monitor as Plugin>⟧.stands_for plugin [] 0) }
         ensures preallocated { IfOk result (λ plugin. ⟦<Monitor as Plugin>⟧.preallocated plugin ≡ None) }
+        ensures reserved { IfOk result (λ plugin. room_of plugin ≡ buffer) }
     {
         let notes = HeapCircularBuffer::with_capacity(alloc, buffer)?;
         // The largest value comes last: nothing can fail while it is held.
@@ -69,6 +70,7 @@ impl Monitor {
         ensures met { OnOk result ((history : List GivenCell) (mark : ℕ) → StandsFor self.old history mark
             → length history ≡ at → (labels : ℕ) → StandsFor self.new (history ++ Live packet.now labels ∷ []) mark) }
         ensures same { self.new.conf ≡ self.old.conf }
+        ensures reserved { room_of self.new ≡ room_of self.old }
         ensures err { OnErr result ((history : List GivenCell) (mark : ℕ) → StandsFor self.old history mark → StandsFor self.new history mark) }
     {
         self.failed.check()?;
@@ -85,6 +87,7 @@ impl Monitor {
         ensures met { OnOk result ((history : List GivenCell) (mark : ℕ) → StandsFor self.old history mark
             → length history ≡ at → (labels : ℕ) → StandsFor self.new (history ++ Live packet.now labels ∷ []) mark) }
         ensures same { self.new.conf ≡ self.old.conf }
+        ensures reserved { room_of self.new ≡ room_of self.old }
         ensures same_failed { has_failed self.new ≡ has_failed self.old }
         ensures err { OnErr result ((self.new.counts ≡ self.old.counts) × (self.new.notes.items ≡ self.old.notes.items)) }
     {
@@ -106,17 +109,33 @@ fn fold_below(notes: &mut HeapCircularBuffer<ErrorNote>, counts: &mut Counts, ma
 }
 
 impl Plugin for Monitor {
-    ghost use Rattle.std.specs.Prelude.{◌≡◌, refl, None};
+    ghost use Rattle.std.specs.Prelude.{◌≡◌, ◌≢◌, ◌<◌, IsOk, IsSome, refl};
+    ghost use Rattle.ts_packet.specs.Cells.{Live};
+    ghost use Rattle.chain_model.specs.declared.positions.TheConstants.{POSITION_LIMIT};
+    ghost use Rattle.plugin_trait.specs.Marks.{AllowsMark, GivesLines};
+    ghost use Rattle.plugin_trait.specs.Steps.{HasRoom, Meets, MeetsCells, Tells, left_of};
     ghost use Rattle.plug_monitor.specs.MonitorRule.{monitor_rule};
-    ghost use Rattle.plug_monitor.specs.MonitorState.{StandsFor};
+    ghost use Rattle.plug_monitor.specs.MonitorState.{StandsFor, preallocated_of, room_of};
 
     ghost rule = { λ s. monitor_rule s.conf };
 
     ghost stands_for = { λ s history mark. StandsFor s history mark };
 
-    ghost preallocated = { λ _. None };
+    ghost preallocated = { λ s. preallocated_of s };
 
-    fn step(&mut self, at: u64, packet: &mut Packet, _labels: &mut Labels) -> Outcome {
+    /// The clauses are those of `Plugin`, whose ghost members have no names here, and one more: the room for notes stays the
+    /// same.
+    fn step(&mut self, at: u64, packet: &mut Packet, _labels: &mut Labels) -> Outcome
+        requires met { MeetsCells (StandsFor self.old) at }
+        requires in_range { at < POSITION_LIMIT }
+        ensures tells { Tells (monitor_rule self.old.conf) (StandsFor self.old) at (Live packet.old _labels.old) result
+            (left_of result packet.new _labels.new) }
+        ensures meets { Meets (StandsFor self.old) (StandsFor self.new) at (Live packet.old _labels.old) result }
+        ensures same_rule { monitor_rule self.new.conf ≡ monitor_rule self.old.conf }
+        ensures same_preallocated { preallocated_of self.new ≡ preallocated_of self.old }
+        ensures room { HasRoom (preallocated_of self.old) (StandsFor self.old) at → result ≢ Outcome.NoMemory }
+        ensures reserved { room_of self.new ≡ room_of self.old }
+    {
         match self.meet(at, packet) {
             Ok(()) => Outcome::Pass,
             Err(_) => Outcome::NoMemory,
@@ -128,7 +147,16 @@ impl Plugin for Monitor {
         a_dropped_cell_leaves_the_watch();
     }
 
-    fn note(&mut self, written: u64, lines: &mut Vec<Line>) -> Result<(), AllocError> {
+    /// The clauses are those of `Plugin`, and one more: the room for notes stays the same.
+    fn note(&mut self, written: u64, lines: &mut Vec<Line>) -> Result<(), AllocError>
+        requires { AllowsMark (StandsFor self.old) written }
+        ensures gives { GivesLines (monitor_rule self.old.conf) (StandsFor self.old) (StandsFor self.new) written
+            lines.old.items lines.new.items result }
+        ensures same_rule { monitor_rule self.new.conf ≡ monitor_rule self.old.conf }
+        ensures same_preallocated { preallocated_of self.new ≡ preallocated_of self.old }
+        ensures room { IsSome (preallocated_of self.old) → IsOk result }
+        ensures reserved { room_of self.new ≡ room_of self.old }
+    {
         push_lines_below(lines, &self.notes, written)?;
         fold_below(&mut self.notes, &mut self.counts, written);
         Ok(())

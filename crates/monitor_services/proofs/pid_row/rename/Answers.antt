@@ -7,7 +7,7 @@ use Rattle.monitor_services.proofs.pid_row.rename.Goals as goal
 pub returns-then-not-may_bring_tables : goal.returns-then-not-may_bring_tables
 returns-then-not-may_bring_tables c = λ units pcr_pid history labels has here forced.
     pids-stay c.args.kind units pcr_pid c.args.keys.now history c.args.packet.now labels has
-    (c.may_bring_tables.ensures c.if-not-may_bring_tables.true (live_packets history) forced)
+    (c.may_bring_tables.ensures.same c.if-not-may_bring_tables.true (live_packets history) forced)
 
 pub returns : goal.returns
 returns c = λ units pcr_pid history labels has here forced.
