@@ -27,6 +27,8 @@ pub(crate) fn form_text(takes: Takes) -> &'static str {
         Takes::Numbered(_, _, Part::Descriptors) =>
             "a number and whole descriptors in hexadecimal digits have / between them, as 257/520107,258/520108\n",
         Takes::Words(_) => "words are joined by commas, without blanks\n",
+        Takes::Service =>
+            "a service is its number, from 1 to 65535, or, where the word is no number, its name as info shows it\n",
         Takes::Choice(_) | Takes::Text => "",
     }
 }
@@ -134,9 +136,12 @@ fn put_range(text: &mut String, takes: Takes) -> Result<(), AllocError> {
             let (least, most) = range;
             write!(text, "the range of the number is {least} to {most}\n")
         }
-        Takes::Ranges(_) | Takes::Part(_) | Takes::Choice(_) | Takes::Words(_) | Takes::Text => Ok(
-            (),
-        ),
+        Takes::Ranges(_)
+        | Takes::Part(_)
+        | Takes::Choice(_)
+        | Takes::Words(_)
+        | Takes::Service
+        | Takes::Text => Ok(()),
     }
 }
 

@@ -1,7 +1,7 @@
 //! Whether a word is what an option or operand takes.
 use plugin_options::{
-    Takes, read_all_numbered, read_bytes, read_number_within, read_pair, read_pair_list, read_part,
-    read_ranges, read_signed_within,
+    Takes, is_service, read_all_numbered, read_bytes, read_number_within, read_pair,
+    read_pair_list, read_part, read_ranges, read_signed_within,
 };
 use std::alloc::{AllocError, Global};
 
@@ -25,6 +25,7 @@ pub(crate) fn fits(alloc: Global, takes: Takes, word: &str) -> Result<bool, Allo
         }
         Takes::Choice(names) => Ok(names.contains(&word)),
         Takes::Words(names) => Ok(word.split(',').all(|part| names.contains(&part))),
+        Takes::Service => Ok(is_service(word)),
         Takes::Text => Ok(true),
     }
 }

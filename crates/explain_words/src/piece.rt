@@ -48,8 +48,12 @@ fn wrong_in_part(takes: Takes, part: &str) -> Option<&str> {
                 None => None,
             }
         }
-        Takes::Bytes(_, _) | Takes::Part(_) | Takes::Choice(_) | Takes::Words(_) | Takes::Text =>
-            None,
+        Takes::Bytes(_, _)
+        | Takes::Part(_)
+        | Takes::Choice(_)
+        | Takes::Words(_)
+        | Takes::Service
+        | Takes::Text => None,
     }
 }
 

@@ -3,7 +3,7 @@ use Rattle.std.specs.Prelude.{ℕ, drop, Bool, List}
 use Rattle.std.specs.List.{list_any}
 use Rattle.ts_table_rows.specs.BodyReading.{first_number}
 use Rattle.ts_table_rows.specs.TableValues.{ItemHolding}
-use Rattle.plug_info_state.specs.SdtInForce.{is_number}
+use Rattle.named_services.specs.SdtInForce.{is_number}
 
 -- one of the components has the PID
 abbrev pub has_item : List ItemHolding → ℕ → Bool

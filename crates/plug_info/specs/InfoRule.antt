@@ -25,8 +25,8 @@ pub use Rattle.plug_info_state.specs.PidCounts.{numbers_on}
 use Rattle.plug_info_state.specs.PcrRate.{breaks_of, rate_of}
 pub use Rattle.plug_info.specs.PidUses.{use_of}
 pub use Rattle.plug_info.specs.PmtFields.{pcr_pid_in}
-use Rattle.plug_info_state.specs.SdtInForce.{is_number, items_in, sdt_of, service_body}
-pub use Rattle.plug_info_state.specs.SdtInForce.{stream_id_in}
+use Rattle.named_services.specs.SdtInForce.{is_number, items_in, sdt_of, service_body}
+pub use Rattle.service_items.specs.StreamTables.{stream_of}
 use Rattle.plug_info.specs.SdtStatus.{service_status}
 use Rattle.plug_info.specs.declared.ca_system.CaSystem.{CaSystem}
 use Rattle.plug_info.specs.declared.info_conf.InfoConf.{InfoConf}
@@ -43,7 +43,7 @@ abbrev pub stream_numbers : List Cell → StreamNumbers
 stream_numbers cells = record {
   packets = length (live_packets cells);
   extent = extent_of cells;
-  stream_id = stream_id_in (pat_of (live_packets cells));
+  stream_id = stream_of (pat_of (live_packets cells));
   rate = rate_of cells;
   breaks = breaks_of cells;
   nulls = packets_on NULL_PID (live_packets cells);
@@ -103,7 +103,7 @@ system_line system = ca_line system.id system.pid
 abbrev pub info_on : List Cell → List (List ℕ)
 info_on cells =
     (stream_text (stream_numbers cells)
-    ∷ sdt_texts (stream_id_in (pat_of (live_packets cells))) (stream_id_in (sdt_of (live_packets cells))))
+    ∷ sdt_texts (stream_of (pat_of (live_packets cells))) (stream_of (sdt_of (live_packets cells))))
     ++ (name_lines (live_packets cells)
     ++ (map system_line (emm_systems (live_packets cells))
     ++ (flat_map (service_lines cells) (services_in (pat_of (live_packets cells)))
@@ -142,7 +142,7 @@ system_object system = ca_json system.id system.pid
 abbrev pub json_on : List Cell → List ℕ
 json_on cells =
     whole_json (stream_json (stream_numbers cells))
-    (number_or_null (stream_id_in (sdt_of (live_packets cells))) ++ names_json (live_packets cells))
+    (number_or_null (stream_of (sdt_of (live_packets cells))) ++ names_json (live_packets cells))
     (array (map system_object (emm_systems (live_packets cells))))
     (array (map (service_object cells) (services_in (pat_of (live_packets cells)))))
     (array (flat_map (pid_objects cells) (numbers_below PID_COUNT)))

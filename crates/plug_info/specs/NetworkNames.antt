@@ -10,7 +10,7 @@ use Rattle.plug_info_texts.specs.NamedTexts
 use Rattle.plug_info_texts.specs.NamedTexts.{named_json, named_text}
 use Rattle.plug_info_state.specs.BatsInForce.{bat_of}
 use Rattle.plug_info_state.specs.NitInForce.{nit_of}
-use Rattle.plug_info_state.specs.SdtInForce.{body_with}
+use Rattle.named_services.specs.SdtInForce.{body_with}
 
 -- the line of a network or a bouquet, with this word and the name under this tag
 abbrev pub named_line : List ℕ → ℕ → TableHolding → List ℕ

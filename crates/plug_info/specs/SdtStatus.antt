@@ -4,7 +4,7 @@ use Rattle.std.specs.Prelude.{ℕ, List, [], ◌∷◌, Option, None, Some, if�
 use Rattle.ts_table_rows.specs.BodyReading.{first_number}
 use Rattle.ts_table_rows.specs.TableValues.{ItemHolding, TableHolding}
 use Rattle.plug_psi.specs.NumbersHeld.{number_at}
-use Rattle.plug_info_state.specs.SdtInForce.{is_number, items_in}
+use Rattle.named_services.specs.SdtInForce.{is_number, items_in}
 
 -- free_CA_mode and running_status of the first entry with this service_id
 abbrev pub status_in : ℕ → List ItemHolding → Option (ℕ × ℕ)

@@ -14,7 +14,7 @@ ghost use Rattle.plug_info_texts.specs.EitTexts.{eit_json};
 ghost use Rattle.plug_info_texts.specs.InfoJson;
 ghost use Rattle.plug_info_texts.specs.InfoJson.{after_comma};
 ghost use Rattle.plug_info.specs.InfoRule.{component_object, json_on, pid_objects, scene_of, service_object};
-ghost use Rattle.plug_info_state.specs.SdtInForce.{items_in, sdt_of};
+ghost use Rattle.named_services.specs.SdtInForce.{items_in, sdt_of};
 ghost use Rattle.plug_info.specs.CaSystems.{program_descriptors, system_ids};
 ghost use Rattle.plug_info.specs.SdtStatus.{service_status};
 ghost use Rattle.plug_info_state.specs.EitSections.{eit_of};
@@ -26,7 +26,7 @@ use crate::cat_lines::systems_json;
 use crate::network_names::names_json;
 use crate::pid_uses::PidUses;
 use crate::service_status::{program_descriptors, service_status};
-use crate::service_texts::service_body;
+use named_services::service_body;
 use crate::summary::{
     numbers_shown, pcr_pid_in, sdt_stream_id, service_packets, stream_numbers, uses_of,
 };

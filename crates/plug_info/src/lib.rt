@@ -14,7 +14,6 @@ mod network_names;
 mod pid_uses;
 mod report;
 mod service_status;
-mod service_texts;
 mod summary;
 mod users;
 

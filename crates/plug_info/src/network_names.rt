@@ -14,7 +14,7 @@ ghost use Rattle.plug_info_state.specs.BatsInForce.{bat_of};
 ghost use Rattle.plug_info_state.specs.Tracked.{Tracks};
 ghost use Rattle.plug_info.specs.NetworkNames.{bouquet_lines, bouquet_objects, bouquets_of, name_lines, named_line, named_object, names_json, network_json, network_lines, objects_of};
 
-use crate::service_texts::body_with;
+use named_services::body_with;
 use plug_info_state::{BOUQUET_COUNT, Tracker};
 use plug_info_texts::{array, named_json, named_text, push_item};
 use plugin_notes::push_line;

@@ -11,9 +11,9 @@ ghost use Rattle.ts_psi.specs.PsiTables.{component_item, pmt_held};
 ghost use Rattle.plugin_notes.specs.PidPackets.{numbers_below};
 ghost use Rattle.plugin_trait.specs.PlacedLines.{placed_at};
 ghost use Rattle.plug_psi.specs.InForce.{pat_of, pmt_of, services_in};
-ghost use Rattle.plug_info.specs.InfoRule.{component_line, has_component, info_on, numbers_on, pcr_pid_in, pid_lines, scene_of, service_line, service_lines, service_packets, stream_id_in, stream_numbers, users_of};
+ghost use Rattle.plug_info.specs.InfoRule.{component_line, has_component, info_on, numbers_on, pcr_pid_in, pid_lines, scene_of, service_line, service_lines, service_packets, stream_of, stream_numbers, users_of};
 ghost use Rattle.plug_info_texts.specs.InfoTexts.{pid_text, sdt_texts};
-ghost use Rattle.plug_info_state.specs.SdtInForce.{sdt_of};
+ghost use Rattle.named_services.specs.SdtInForce.{sdt_of};
 ghost use Rattle.plug_info.specs.CaSystems.{program_descriptors, system_ids};
 ghost use Rattle.plug_info.specs.SdtStatus.{service_status};
 ghost use Rattle.plug_info_state.specs.EitSections.{eit_of};
@@ -28,7 +28,7 @@ use crate::cat_lines::push_systems;
 use crate::network_names::push_names;
 use crate::pid_uses::PidUses;
 use crate::service_status::{program_descriptors, service_status};
-use crate::service_texts::service_body;
+use named_services::service_body;
 use crate::users::{components_of, has_component, services_of, users_of};
 use plug_info_state::Tracker;
 use plug_info_texts::line_texts::{
@@ -86,7 +86,7 @@ pub fn stream_numbers(tracker: &Tracker) -> StreamNumbers
 
 /// The transport_stream_id of the SDT in force.
 pub fn sdt_stream_id(tracker: &Tracker) -> Option<u16>
-    ensures { (cells : List GivenCell) → Tracks tracker.now cells → result ≡ stream_id_in (sdt_of (live_packets cells)) }
+    ensures { (cells : List GivenCell) → Tracks tracker.now cells → result ≡ stream_of (sdt_of (live_packets cells)) }
 {
     match tracker.sdt_in_force() {
         Some(sdt) => Some(sdt.stream_id),

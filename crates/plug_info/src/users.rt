@@ -9,7 +9,7 @@ ghost use Rattle.plug_psi.specs.ForceStands.{StandsFor as IsFed};
 ghost use Rattle.ts_psi.specs.PsiTables.{component_item, pmt_held};
 ghost use Rattle.plug_info.specs.InfoRule.{has_component, users_of};
 ghost use Rattle.plug_info.specs.Components.{has_item};
-ghost use Rattle.plug_info_state.specs.SdtInForce.{items_in};
+ghost use Rattle.named_services.specs.SdtInForce.{items_in};
 
 use plug_psi::{InForce, number_and_pid};
 use ts_psi::{Component, PatService, Pmt};

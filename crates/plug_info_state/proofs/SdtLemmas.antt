@@ -1,65 +1,26 @@
--- Lemmas on the SDTs that are kept, packet by packet.
-use Rattle.std.proofs.Common.{◌≡◌, ℕ, ◌==◌, ◌&&◌, false, List, [], ◌∷◌, ◌++◌, Option, None, Some, refl, sym, ◌∙◌, ap, ap₂}
-use Rattle.std.specs.Prelude.{is_some, not}
-use Rattle.std.specs.Option.{option_or}
-use Rattle.ts_packet.specs.Header.{error_indicator_of, pid_of, scrambling_of}
-use Rattle.ts_packet.specs.Payload.{payload_start_of}
-use Rattle.ts_demux.specs.CountedPackets.{counts}
-use Rattle.ts_demux.specs.PidTables as reading
+-- Lemmas on the SDTs and BATs that are kept, packet by packet.
+use Rattle.std.proofs.Common.{◌≡◌, ℕ, List, [], ◌∷◌, ◌++◌, None, sym, ◌∙◌}
 use Rattle.ts_demux.specs.TablesOn.{Completes}
-use Rattle.ts_demux.specs.declared.pid_tables.PidTables.{PidTables}
 use Rattle.plug_psi.specs.LastFound.{found_after}
 use Rattle.plug_psi.proofs.FoundLemmas.{found-more, found-none}
+use Rattle.named_services.specs.SdtStands.{HasFedSdt}
 use Rattle.plug_info_state.specs.BatStands.{kept_bat}
 use Rattle.plug_info_state.specs.BatsInForce.{bat_of, current_bat_of}
-use Rattle.plug_info_state.specs.SdtInForce.{current_sdt, current_sdt_of, last_sdt, sdt_for, sdt_of, sdt_with, stream_id_in}
-use Rattle.plug_info_state.specs.SdtStands.{HasFedSdt, kept_at, kept_with, last_kept}
-use Rattle.plug_info_state.specs.declared.sdt_in_force.SdtInForce.{SdtInForce}
-use Rattle.plug_psi.specs.InForce.{pat_of}
+use Rattle.plug_info_state.specs.SdtStands.{HasFedTables}
+use Rattle.plug_info_state.specs.declared.sdt_and_bats.SdtAndBats.{SdtAndBats}
 
 -- no packet was fed
-pub sdt-new : (s : SdtInForce) → reading.StandsFor s.tables 17 [] → ((id : ℕ) → kept_with s.kept id ≡ None) → last_kept s.kept ≡ None → ((id : ℕ) → kept_bat s.bats id ≡ None) → HasFedSdt s []
-unfolding bat_of last_sdt sdt_with
-sdt-new s read none none_last no_bat = record {
-  read = read;
-  each = λ id. none id ∙ sym (found-none (current_sdt_of id) 17);
-  last = none_last ∙ sym (found-none current_sdt 17);
-  bouquets = λ id. no_bat id ∙ sym (found-none (current_bat_of id) 17);
-}
+pub tables-new : (s : SdtAndBats) → HasFedSdt s.sdt [] → ((id : ℕ) → kept_bat s.bats id ≡ None) → HasFedTables s []
+unfolding bat_of
+tables-new s sdt no_bat = record { sdt = sdt; bouquets = λ id. no_bat id ∙ sym (found-none (current_bat_of id) 17) }
 
 -- the tables that a packet completes
-pub sdt-fed : (s s_new : SdtInForce) (fed : List (List ℕ)) (packet : List ℕ) (list bats tables : List (List (List ℕ))) → HasFedSdt s fed
-    → reading.StandsFor s_new.tables 17 (fed ++ packet ∷ []) → Completes 17 fed packet tables → list ≡ tables → bats ≡ tables
-    → ((id : ℕ) → kept_with s_new.kept id ≡ found_after (current_sdt_of id) (kept_with s.kept id) list)
-    → last_kept s_new.kept ≡ found_after current_sdt (last_kept s.kept) list
-    → ((id : ℕ) → kept_bat s_new.bats id ≡ found_after (current_bat_of id) (kept_bat s.bats id) bats)
-    → HasFedSdt s_new (fed ++ packet ∷ [])
-unfolding bat_of last_sdt sdt_with
-sdt-fed s s_new fed packet list bats tables w read completes same same_bats each last bouquets = record {
-  read = read;
-  each = λ id. found-more (current_sdt_of id) _ _ list tables 17 fed packet same (each id) (w.each id) completes;
-  last = found-more current_sdt _ _ list tables 17 fed packet same last w.last completes;
-  bouquets = λ id. found-more (current_bat_of id) _ _ bats tables 17 fed packet same_bats (bouquets id) (w.bouquets id) completes;
+pub tables-fed : (s s_new : SdtAndBats) (fed : List (List ℕ)) (packet : List ℕ) (list tables : List (List (List ℕ))) → HasFedTables s fed
+    → HasFedSdt s_new.sdt (fed ++ packet ∷ []) → Completes 17 fed packet tables → list ≡ tables
+    → ((id : ℕ) → kept_bat s_new.bats id ≡ found_after (current_bat_of id) (kept_bat s.bats id) list)
+    → HasFedTables s_new (fed ++ packet ∷ [])
+unfolding bat_of
+tables-fed s s_new fed packet list tables w sdt completes same bouquets = record {
+  sdt = sdt;
+  bouquets = λ id. found-more (current_bat_of id) _ _ list tables 17 fed packet same (bouquets id) (w.bouquets id) completes;
 }
-
--- a packet on another PID does not count
-apart : (packet : List ℕ) → (pid_of packet == 17) ≡ false → counts 17 packet ≡ false
-apart packet other = ap (λ b. b && ((scrambling_of packet == 0) && (not (error_indicator_of packet) && is_some (payload_start_of packet)))) other
-
-pub sdt-other : (s : SdtInForce) (fed : List (List ℕ)) (packet : List ℕ) → (pid_of packet == 17) ≡ false
-    → ((tables : PidTables) (pid : ℕ) (taken : List (List ℕ)) (packet : List ℕ) → reading.StandsFor tables pid taken → counts pid packet ≡ false → reading.StandsFor tables pid (taken ++ packet ∷ []))
-    → ((pid : ℕ) (taken : List (List ℕ)) (packet : List ℕ) → counts pid packet ≡ false → Completes pid taken packet [])
-    → HasFedSdt s fed → HasFedSdt s (fed ++ packet ∷ [])
-sdt-other s fed packet other uncounted nothing w =
-    sdt-fed s s fed packet [] [] [] w (uncounted s.tables 17 fed packet w.read (apart packet other)) (nothing 17 fed packet (apart packet other)) refl refl (λ id. refl) refl
-    (λ id. refl)
-
--- the one that is chosen of those that are kept
-pub chosen-is : (s : SdtInForce) (fed : List (List ℕ)) (id : Option ℕ) → HasFedSdt s fed → option_or (kept_at s.kept id) (last_kept s.kept) ≡ sdt_for id fed
-chosen-is s fed None w = w.last
-chosen-is s fed (Some id) w = ap₂ option_or (w.each id) w.last
-
--- the one in force, by the PAT in force
-pub in-force : (fed : List (List ℕ)) (id : Option ℕ) → id ≡ stream_id_in (pat_of fed) → sdt_for id fed ≡ sdt_of fed
-unfolding sdt_of
-in-force fed id is = ap (λ (n : Option ℕ). sdt_for n fed) is

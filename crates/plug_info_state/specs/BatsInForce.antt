@@ -7,7 +7,7 @@ use Rattle.ts_table_rows.specs.TableValues.{TableHolding}
 use Rattle.ts_table_pages.specs.SiPages.{bat_page}
 use Rattle.plug_psi.specs.CurrentTables.{current_in}
 use Rattle.plug_psi.specs.LastFound.{last_found}
-use Rattle.plug_info_state.specs.SdtInForce.{of_extension}
+use Rattle.named_services.specs.SdtInForce.{of_extension}
 
 -- the BAT of a bouquet that a table is, if it reads as one and is current
 abbrev pub current_bat_of : ℕ → List (List ℕ) → Option TableHolding

@@ -12,7 +12,6 @@ pub mod OtherStands
 pub mod PacketExtent
 pub mod PcrRate
 pub mod PidCounts
-pub mod SdtInForce
 pub mod SdtStands
 pub mod CountsOf
 pub mod Tracked

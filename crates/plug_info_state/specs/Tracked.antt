@@ -10,7 +10,7 @@ use Rattle.plug_analyze.specs.AnalyzeRule.{all_pids}
 use Rattle.plug_info_state.specs.ClockSpans.{AreSpans}
 use Rattle.plug_info_state.specs.ExtentKept.{kept_extent}
 use Rattle.plug_info_state.specs.OtherStands.{HasFedOthers}
-use Rattle.plug_info_state.specs.SdtStands.{HasFedSdt}
+use Rattle.plug_info_state.specs.SdtStands.{HasFedTables}
 use Rattle.plug_info_state.specs.CountsOf.{AreCounted}
 use Rattle.plug_info_state.specs.declared.tracker.Tracker.{Tracker}
 
@@ -20,7 +20,7 @@ pub record Tracks (tracker : Tracker) (cells : List Cell) : Type 0 where
   pub counted : AreCounted tracker.counts cells
   pub spans_are : AreSpans tracker.spans cells
   pub extent_is : tracker.extent ≡ kept_extent (met_rows cells)
-  pub has_sdt : HasFedSdt tracker.sdt (live_packets cells)
+  pub has_sdt : HasFedTables tracker.sdt (live_packets cells)
   pub has_others : HasFedOthers tracker.others (live_packets cells)
   pub fed : forcing.StandsFor tracker.force (live_packets cells)
 

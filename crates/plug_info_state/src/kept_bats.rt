@@ -28,7 +28,7 @@ impl KeptBats {
     ghost use Rattle.std.specs.Option.{option_copied};
     ghost use Rattle.ts_si.specs.SiTables.{bat_held};
     ghost use Rattle.plug_psi.specs.LastFound.{newer};
-    ghost use Rattle.plug_info_state.specs.SdtInForce.{of_extension};
+    ghost use Rattle.named_services.specs.SdtInForce.{of_extension};
     ghost use Rattle.plug_info_state.specs.BatStands.{kept_bat};
 
     /// No BAT yet.

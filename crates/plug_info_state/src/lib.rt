@@ -8,12 +8,11 @@ mod counters;
 mod eit_counts;
 mod extent;
 mod kept_bats;
-mod kept_sdts;
 mod nit_in_force;
 mod number_counts;
 mod other_tables;
 mod packet_counts;
-mod sdt_in_force;
+mod sdt_and_bats;
 mod spans;
 mod tracker;
 

@@ -3,7 +3,7 @@ use crate::counters::meet_counter;
 use crate::extent::Extent;
 use crate::other_tables::OtherTables;
 use crate::packet_counts::PacketCounts;
-use crate::sdt_in_force::SdtInForce;
+use crate::sdt_and_bats::SdtAndBats;
 use crate::spans::Spans;
 use plug_info_texts::EitNumbers;
 use plug_psi::{Changes, InForce, both};
@@ -23,7 +23,7 @@ pub struct Tracker {
     /// How far the packets reach.
     pub extent: Extent,
     /// The SDTs of which one is in force, and the BATs.
-    sdt: SdtInForce,
+    sdt: SdtAndBats,
     /// The other tables that are read.
     pub others: OtherTables,
     /// The PAT and the PMTs in force.
@@ -43,7 +43,8 @@ impl Tracker {
     ghost use Rattle.plug_info_state.specs.EitSections.{eit_of};
     ghost use Rattle.plug_info_state.specs.NitInForce.{nit_of};
     ghost use Rattle.plug_info_state.specs.declared.kept_bats.TheConstants.{BOUQUET_COUNT};
-    ghost use Rattle.plug_info_state.specs.SdtInForce.{sdt_of, stream_id_in};
+    ghost use Rattle.named_services.specs.SdtInForce.{sdt_of};
+    ghost use Rattle.service_items.specs.StreamTables.{stream_of};
     ghost use Rattle.plug_info_state.specs.Tracked.{Tracks, TracksSome};
 
     /// No cell yet. Allocates 680 KiB; the tables in force grow with the stream.
@@ -54,7 +55,7 @@ impl Tracker {
         let counts = PacketCounts::new(alloc)?;
         let spans = Spans::new(alloc)?;
         let others = OtherTables::new(alloc)?;
-        let sdt = SdtInForce::new(alloc)?;
+        let sdt = SdtAndBats::new(alloc)?;
         let force = InForce::new(alloc);
         let (sdt, force) = both(sdt, force)?;
         Ok(Tracker {
@@ -115,7 +116,7 @@ impl Tracker {
 
     /// The transport_stream_id of the PAT in force, if there is one.
     pub fn stream_id(&self) -> Option<u16>
-        ensures { (cells : List GivenCell) → Tracks self.now cells → result ≡ stream_id_in (pat_of (live_packets cells)) }
+        ensures { (cells : List GivenCell) → Tracks self.now cells → result ≡ stream_of (pat_of (live_packets cells)) }
     {
         match self.force.pat() {
             Some(pat) => Some(pat.stream_id),

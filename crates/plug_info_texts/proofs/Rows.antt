@@ -13,7 +13,7 @@ use Rattle.ts_fields.specs.Texts.{text_of}
 use Rattle.plug_info_texts.specs.InfoJson.{array, bytes_field, component_json, component_marks, stream_json, text_or_hex, type_json, whole_json}
 use Rattle.plug_info_texts.specs.InfoTexts.{component_text, hundredths, marks_text, percent, pid_text, portion_text, rate_part, rate_text, sdt_texts, service_head, service_tail, shown_name, stream_text, type_text}
 use Rattle.plug_info_texts.specs.Rounding.{rounded}
-use Rattle.plug_info_texts.specs.ServiceNames.{name_in}
+use Rattle.named_services.specs.ServiceNames.{name_in}
 
 -- a language and a codec stand once, and four letters of a registration_descriptor count where a line can have them
 abbrev marked : List TaggedBody

@@ -12,7 +12,7 @@ use Rattle.plug_info_texts.specs.InfoNames.{service_type_names, stream_type_name
 use Rattle.plug_info_texts.specs.InfoTexts.{hex_text, rate_part}
 use Rattle.plug_info_texts.specs.Marks.{audio_type_of, codecs_of, languages_of}
 use Rattle.plug_info_texts.specs.PlainTexts.{escaped, is_harmless}
-use Rattle.plug_info_texts.specs.ServiceNames.{name_in, provider_in, type_in}
+use Rattle.named_services.specs.ServiceNames.{name_in, provider_in, type_in}
 use Rattle.plug_info_texts.specs.declared.pid_numbers.PidNumbers.{PidNumbers}
 use Rattle.plug_info_texts.specs.declared.scene.Scene.{Scene}
 use Rattle.plug_info_texts.specs.declared.stream_numbers.StreamNumbers.{StreamNumbers}

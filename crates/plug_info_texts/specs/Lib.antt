@@ -8,4 +8,3 @@ pub mod NameRows
 pub mod NamedTexts
 pub mod PlainTexts
 pub mod Rounding
-pub mod ServiceNames

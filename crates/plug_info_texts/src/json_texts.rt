@@ -10,7 +10,7 @@ use crate::name_row::{service_type_name, stream_type_name};
 use crate::pid_numbers::PidNumbers;
 use crate::portions::bytes_of;
 use crate::scene::Scene;
-use crate::service_names::{name_in, provider_in, type_in};
+use named_services::{name_in, provider_in, type_in};
 use crate::shown::widened;
 use crate::stream_numbers::StreamNumbers;
 use std::alloc::{AllocError, Global};

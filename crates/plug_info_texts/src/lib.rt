@@ -19,7 +19,6 @@ mod portions;
 mod rounding;
 mod scene;
 mod service_marks;
-mod service_names;
 mod shown;
 mod stream_numbers;
 

@@ -10,6 +10,8 @@ use Rattle.ts_table_rows.specs.TableValues.{TableHolding}
 use Rattle.plug_psi.specs.InForce.{follows, is_named, may_have_tables, names, pat_of, pid_for, pmt_of, services_in}
 use Rattle.plug_psi.specs.ServicePids.{has_pid}
 use Rattle.plug_psi.proofs.ForceLemmas.{pat-other}
+use Rattle.named_services.specs.NamedServices.{services_after}
+use Rattle.named_services.specs.declared.service_word.ServiceWord.{ServiceWord}
 use Rattle.plug_service.specs.Actions.{action_after, action_of, edits_eits, edits_nits, is_edit, kept_action, may_be_read, own_pids, pmt_pids, removed_action}
 use Rattle.plug_service.specs.declared.way.Way.{Way}
 use Rattle.plug_service.specs.declared.way.Way.TheVariants.{Keep, Remove}
@@ -190,12 +192,12 @@ apart pid e = grind (arith, nat_tests, e)
 
 -- packets are edited as PATs exactly on PID 0, and as SDTs exactly on PID 17
 pub fixed_pids :
-    (way : Way) (services : List ℕ) (packets : List (List ℕ)) (pid : ℕ) (action : Action) → action ≡ action_after way services packets pid →
+    (way : Way) (words : List ServiceWord) (packets : List (List ℕ)) (pid : ℕ) (action : Action) → action ≡ action_after way words packets pid →
     ((pid == 0) ≡ edits_pat action) × ((pid == 17) ≡ edits_sdt action)
 unfolding action_after
-fixed_pids (Keep kept) services packets pid action e =
+fixed_pids (Keep kept) words packets pid action e =
     chosen_first (pid == 0) (pid == 17) _ action (first_other (kept.nit && (pid == 16)) (kept.time && (pid == 20)) (kept.eit && (pid == 18)) _ (kept_other _ _ pid)) (apart pid) e
-fixed_pids (Remove everywhere) services packets pid action e =
+fixed_pids (Remove everywhere) words packets pid action e =
     chosen_first (pid == 0) (pid == 17) _ action (gone_other (everywhere && (pid == 16)) (everywhere && (pid == 18)) _ (removed_other _ _ _ pid)) (apart pid) e
 
 right_of : (a b : Bool) → (a && b) ≡ true → b ≡ true
@@ -214,10 +216,10 @@ at-sixteen pid e = (grind (arith, nat_tests, e), grind (arith, nat_tests, e))
 
 -- and as EITs on PID 18, if EIT sections are edited
 pub eit_pid :
-    (way : Way) (services : List ℕ) (packets : List (List ℕ)) (pid : ℕ) (action : Action) → action ≡ action_after way services packets pid →
+    (way : Way) (words : List ServiceWord) (packets : List (List ℕ)) (pid : ℕ) (action : Action) → action ≡ action_after way words packets pid →
     (edits_eits way && (pid == 18)) ≡ edits_eit action
 unfolding action_after
-eit_pid (Keep kept) services packets pid action e =
+eit_pid (Keep kept) words packets pid action e =
     let a = kept.nit && (pid == 16) in
     let b = kept.time && (pid == 20) in
     let c = kept.eit && (pid == 18) in
@@ -226,7 +228,7 @@ eit_pid (Keep kept) services packets pid action e =
     (first_eit a b c _ (kept_none edits_eit no_eit _ _ pid)
     (λ is. let at = at-eighteen pid (right_of kept.eit (pid == 18) is) in (none_of kept.nit (pid == 16) at.2, none_of kept.time (pid == 20) at.3)))
     (λ is. let at = at-eighteen pid (right_of kept.eit (pid == 18) is) in (at.0, at.1)))
-eit_pid (Remove everywhere) services packets pid action e =
+eit_pid (Remove everywhere) words packets pid action e =
     let a = everywhere && (pid == 16) in
     let b = everywhere && (pid == 18) in
     sym (ap edits_eit e
@@ -236,24 +238,25 @@ eit_pid (Remove everywhere) services packets pid action e =
 
 -- and as NITs on PID 16, if NITs are edited
 pub nit_pid :
-    (way : Way) (services : List ℕ) (packets : List (List ℕ)) (pid : ℕ) (action : Action) → action ≡ action_after way services packets pid →
+    (way : Way) (words : List ServiceWord) (packets : List (List ℕ)) (pid : ℕ) (action : Action) → action ≡ action_after way words packets pid →
     (edits_nits way && (pid == 16)) ≡ edits_nit action
 unfolding action_after
-nit_pid (Keep kept) services packets pid action e =
+nit_pid (Keep kept) words packets pid action e =
     sym (ap edits_nit e
     ∙ front edits_nit refl refl (pid == 0) (pid == 17) _ false
     (first_nit (kept.nit && (pid == 16)) (kept.time && (pid == 20)) (kept.eit && (pid == 18)) _ (kept_none edits_nit no_nit _ _ pid))
     (λ is. absurd (true≢false (sym is))))
-nit_pid (Remove everywhere) services packets pid action e =
+nit_pid (Remove everywhere) words packets pid action e =
     sym (ap edits_nit e
     ∙ front edits_nit refl refl (pid == 0) (pid == 17) _ (everywhere && (pid == 16))
     (gone_nit (everywhere && (pid == 16)) (everywhere && (pid == 18)) _ (removed_none edits_nit no_nit _ _ _ pid))
     (λ is. at-sixteen pid (right_of everywhere (pid == 16) is)))
 
 -- the action of a PID by the tables in force after packets
-pub action-after : (way : Way) (services : List ℕ) (packets : List (List ℕ)) (pid : ℕ) → action_of way services (pat_of packets) (λ other. pmt_of other packets) pid ≡ action_after way services packets pid
+pub action-after : (way : Way) (words : List ServiceWord) (packets : List (List ℕ)) (pid : ℕ) →
+    action_of way (services_after words packets) (pat_of packets) (λ other. pmt_of other packets) pid ≡ action_after way words packets pid
 unfolding action_after
-action-after way services packets pid = refl
+action-after way words packets pid = refl
 
 -- ---- packets on PIDs whose tables are neither read nor edited
 
@@ -261,7 +264,7 @@ or-right : (a b : Bool) → b ≡ true → (a || b) ≡ true
 or-right true b e = refl
 or-right false b e = e
 
-neither : (a b : Bool) → (a || b) ≡ false → (a ≡ false) × (b ≡ false)
+pub neither : (a b : Bool) → (a || b) ≡ false → (a ≡ false) × (b ≡ false)
 neither true b e = cc
 neither false b e = (refl, e)
 
@@ -349,13 +352,13 @@ plain-of (Remove everywhere) services pat pmts pid e f n g none =
 
 -- a packet on a PID whose tables are neither read nor edited is not edited
 pub unread-plain :
-    (way : Way) (services : List ℕ) (met : List (List ℕ)) (p : List ℕ) (action : Action) →
-    action ≡ action_after way services (met ++ p ∷ []) (pid_of p) → may_be_read way (pid_of p) met ≡ false → is_edit action ≡ false
-unread-plain way services met p action e unread =
+    (way : Way) (words : List ServiceWord) (met : List (List ℕ)) (p : List ℕ) (action : Action) →
+    action ≡ action_after way words (met ++ p ∷ []) (pid_of p) → may_be_read way (pid_of p) met ≡ false → is_edit action ≡ false
+unread-plain way words met p action e unread =
     let first = neither (pid_of p == 17) _ unread in
     let nits = neither (edits_nits way && (pid_of p == 16)) _ first.1 in
     let eits = neither (edits_eits way && (pid_of p == 18)) (may_have_tables (pid_of p) met) nits.1 in
     let second = neither (pid_of p == 0) (follows (pid_of p) met) eits.1 in
-    ap is_edit (e ∙ sym (action-after way services (met ++ p ∷ []) (pid_of p)))
-    ∙ plain-of way services (pat_of (met ++ p ∷ [])) (λ other. pmt_of other (met ++ p ∷ [])) (pid_of p) first.0 second.0 nits.0 eits.0
+    ap is_edit (e ∙ sym (action-after way words (met ++ p ∷ []) (pid_of p)))
+    ∙ plain-of way (services_after words (met ++ p ∷ [])) (pat_of (met ++ p ∷ [])) (λ other. pmt_of other (met ++ p ∷ [])) (pid_of p) first.0 second.0 nits.0 eits.0
     (ap (λ pat. is_named pat (pid_of p)) (pat-other met p second.0) ∙ second.1)

@@ -3,6 +3,7 @@ pub mod EditLemmas
 pub mod PartLemmas
 pub mod PidLemmas
 pub mod FlagLemmas
+pub mod FlowLemmas
 pub mod StepLemmas
 pub mod ServiceLemmas
 mod OneServiceRows

@@ -12,7 +12,7 @@ use Rattle.plug_psi.specs.ServicePids.{has_pid, pids_of}
 use Rattle.plug_service.specs.Actions.{action_of, edited_first, is_in_pmts_alone, kept_action, kept_first, more_entries, own_pids, pids_besides, removed_action}
 use Rattle.plug_service.specs.Presence.{is_any_there, is_there}
 use Rattle.plug_service.specs.ServiceEdits.{carried_if_one, pmt_change, stays}
-use Rattle.plug_service.specs.Services.{each_once, is_one}
+use Rattle.named_services.specs.ServiceLists.{each_once, is_one}
 use Rattle.plug_service.specs.declared.kept.Kept.{Kept}
 use Rattle.plug_service.specs.declared.way.Way.{Way}
 use Rattle.plug_service.specs.declared.way.Way.TheVariants.{Keep, Remove}

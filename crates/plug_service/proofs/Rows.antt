@@ -8,7 +8,7 @@ use Rattle.plug_psi.proofs.RowTables.{item_of, table_of}
 use Rattle.plug_service.specs.Actions.{action_of}
 use Rattle.plug_service.specs.Presence.{is_any_there}
 use Rattle.plug_service.specs.ServiceEdits.{carried_if_one, entry_stays, kept_eit, other_change, others_eit, stream_of}
-use Rattle.plug_service.specs.Services.{each_once}
+use Rattle.named_services.specs.ServiceLists.{each_once}
 use Rattle.plug_service.specs.declared.kept.Kept.{Kept}
 use Rattle.plug_service.specs.declared.way.Way.TheVariants.{Keep, Remove}
 use Rattle.plug_service.specs.declared.action.Action.TheVariants.{EditPat, EditSdt, EditNit, EditEit, EditPmt, Pass, Drop}

@@ -14,6 +14,12 @@ use Rattle.ts_table_rows.specs.TableValues.{TableHolding}
 use Rattle.plug_psi.specs.InForce.{current_pat, pat_of, pid_for, pmt_of}
 use Rattle.plug_psi.specs.SameForce.{SameInForce}
 use Rattle.plug_psi.proofs.FoundLemmas.{found-none}
+use Rattle.named_services.specs.declared.service_word.ServiceWord.{ServiceWord}
+use Rattle.named_services.specs.NamedServices.{services_after}
+use Rattle.named_services.specs.NamesStand.{StaysMeant}
+use Rattle.service_items.specs.StreamTables.{stream_of}
+use Rattle.plug_service.specs.Present.{present_after}
+use Rattle.plug_service.specs.declared.present.Present.{Present}
 use Rattle.plug_service.specs.Presence.{finds_service, is_any_there, is_there, is_there_after}
 use Rattle.plug_service.specs.Actions.{action_of}
 use Rattle.plug_service.specs.ActionsState.{ActionsStand}
@@ -23,6 +29,9 @@ use Rattle.plug_service.specs.declared.way.Way.{Way}
 use Rattle.plug_service.specs.declared.way.Way.TheVariants.{Keep, Remove}
 use Rattle.plug_service.specs.declared.pid_actions.PidActions.{PidActions}
 use Rattle.plug_service.specs.declared.service_steps.ServiceSteps.{ServiceSteps}
+
+abbrev made : Way → List ℕ → Bool → Option ℕ → Present
+made way services unknown stream = record { way = way; services = services; unknown = unknown; stream = stream }
 
 no-pat : pat_of [] ≡ None
 unfolding pat_of
@@ -48,8 +57,8 @@ none-of way [] pat pmts none = refl
 none-of way (service ∷ services) pat pmts none = ap₂ (λ a b. a || b) (sym (not-there way service pat (pmts service) (none service))) (none-of way services pat pmts none)
 
 -- before the first packet none is there
-pub none-there : (way : Way) (services : List ℕ) → is_there_after way services [] ≡ false
-none-there way services = none-of way services (pat_of []) (λ service. pmt_of service []) (λ service. ap (λ pat. pid_for pat service) no-pat)
+pub none-there : (way : Way) (words : List ServiceWord) → is_there_after way words [] ≡ false
+none-there way words = none-of way (services_after words []) (pat_of []) (λ service. pmt_of service []) (λ service. ap (λ pat. pid_for pat service) no-pat)
 
 -- with the same PMTs as many are there
 same-any : (way : Way) (services : List ℕ) (pat pat' : Option TableHolding) (pmts pmts' : ℕ → Option TableHolding) → pat ≡ pat' → ((service : ℕ) → pmts service ≡ pmts' service) → is_any_there way services pat pmts ≡ is_any_there way services pat' pmts'
@@ -57,25 +66,35 @@ same-any way [] pat pat' pmts pmts' e same = refl
 same-any way (service ∷ services) pat pat' pmts pmts' e same = ap₂ (λ a b. a || b) (ap₂ (is_there way service) e (same service)) (same-any way services pat pat' pmts pmts' e same)
 
 -- with the same tables in force the actions stand as before
-pub same-actions : (actions : PidActions) (met : List (List ℕ)) (p : List ℕ) → SameInForce met p
-    → ActionsStand actions (pat_of met) (λ other. pmt_of other met)
-    → ActionsStand actions (pat_of (met ++ p ∷ [])) (λ other. pmt_of other (met ++ p ∷ []))
-same-actions actions met p same stands pid lt =
+pub same-actions : (actions : PidActions) (present : Present) (met : List (List ℕ)) (p : List ℕ) → SameInForce met p
+    → ActionsStand actions present (pat_of met) (λ other. pmt_of other met)
+    → ActionsStand actions present (pat_of (met ++ p ∷ [])) (λ other. pmt_of other (met ++ p ∷ []))
+same-actions actions present met p same stands pid lt =
     stands pid lt
-    ∙ sym (ap (λ pat. action_of actions.way actions.services pat (λ other. pmt_of other (met ++ p ∷ [])) pid) same.pat
-    ∙ ap (λ pmts. action_of actions.way actions.services (pat_of met) pmts pid) (λ i other. same.pmts other i))
+    ∙ sym (ap (λ pat. action_of present.way present.services pat (λ other. pmt_of other (met ++ p ∷ [])) pid) same.pat
+    ∙ ap (λ pmts. action_of present.way present.services (pat_of met) pmts pid) (λ i other. same.pmts other i))
+
+-- and the same is in force as far as edits go by it
+same-parts : (way : Way) (a b : List ℕ) (u v : Bool) (s t : Option ℕ) → a ≡ b → u ≡ v → s ≡ t → made way a u s ≡ made way b v t
+same-parts way a b u v s t e f g = λ i. made way (e i) (f i) (g i)
+
+pub same-present : (way : Way) (words : List ServiceWord) (met : List (List ℕ)) (p : List ℕ) → SameInForce met p → StaysMeant words met p
+    → present_after way words (met ++ p ∷ []) ≡ present_after way words met
+same-present way words met p same stays = same-parts way _ _ _ _ _ _ stays.services stays.unknown (ap stream_of same.pat)
 
 -- what the steps stand for says nothing of the latch, and goes by their own services
-pub served-latched : (old new : ServiceSteps) (failed : Bool) (met : List (List ℕ)) → new.way ≡ old.way → new.services ≡ old.services
-    → Served old.way old.services new met → Served new.way new.services (record new { failed = failed }) met
+pub served-latched : (old new : ServiceSteps) (failed : Bool) (met : List (List ℕ)) → new.way ≡ old.way → new.words ≡ old.words
+    → Served old.way old.words new met → Served new.way new.words (record new { failed = failed }) met
 served-latched old new failed met w s h =
-    let own = subst (λ services. Served new.way services new met) (sym s) (subst (λ way. Served way old.services new met) (sym w) h) in
+    let own = subst (λ words. Served new.way words new met) (sym s) (subst (λ way. Served way old.words new met) (sym w) h) in
     record { followed = own.followed; edited = own.edited; noted = own.noted }
 
 -- where the same tables are in force, nothing changes
-pub same-there : (way : Way) (services : List ℕ) (met : List (List ℕ)) (p : List ℕ) → SameInForce met p → is_there_after way services (met ++ p ∷ []) ≡ is_there_after way services met
-same-there way services met p same =
-    same-any way services (pat_of (met ++ p ∷ [])) (pat_of met) (λ service. pmt_of service (met ++ p ∷ [])) (λ service. pmt_of service met) same.pat same.pmts
+pub same-there : (way : Way) (words : List ServiceWord) (met : List (List ℕ)) (p : List ℕ) → SameInForce met p → StaysMeant words met p
+    → is_there_after way words (met ++ p ∷ []) ≡ is_there_after way words met
+same-there way words met p same stays =
+    ap (λ services. is_any_there way services (pat_of (met ++ p ∷ [])) (λ service. pmt_of service (met ++ p ∷ []))) stays.services
+    ∙ same-any way (services_after words met) (pat_of (met ++ p ∷ [])) (pat_of met) (λ service. pmt_of service (met ++ p ∷ [])) (λ service. pmt_of service met) same.pat same.pmts
 
 -- one of some services that are left
 module _ (way : Way) (services : List ℕ) (pat : Option TableHolding) (pmts : ℕ → Option TableHolding) (i : ℕ) (d : ℕ) (inside : i < length services) (there : Bool)
@@ -111,24 +130,24 @@ marked : (mark : ℕ) (history : List Cell) (cell : Cell) → mark ≤ length hi
 marked mark history cell h = omega (arith, h, length-append history (cell ∷ []))
 
 -- the position that is kept does not depend on how the services are named
-renamed : (way way' : Way) (services services' : List ℕ) (history : List Cell) (found : FirstFind) → way' ≡ way → services' ≡ services →
+renamed : (way way' : Way) (services services' : List ServiceWord) (history : List Cell) (found : FirstFind) → way' ≡ way → services' ≡ services →
     IsFirstFind (finds_service way services) history found → IsFirstFind (finds_service way' services') history found
 renamed way way' services services' history found e f h =
     subst (λ w. IsFirstFind (finds_service w services') history found) (sym e) (subst (λ s. IsFirstFind (finds_service way s) history found) (sym f) h)
 
-module _ (old new : ServiceSteps) (mark : ℕ) (history : List Cell) (e : new.way ≡ old.way) (f : new.services ≡ old.services)
+module _ (old new : ServiceSteps) (mark : ℕ) (history : List Cell) (e : new.way ≡ old.way) (f : new.words ≡ old.words)
     (s : unmarked (MeetsHistory old) history mark) where
   pub met-more :
       (packet : List ℕ) (labels at : ℕ) → length history ≡ at →
       ((met : List (List ℕ)) → StandsFor old met → StandsFor new (met ++ packet ∷ [])) →
-      ((met : List (List ℕ)) → StandsFor old met → new.found.at ≡ first_of old.found.at at (is_there_after old.way old.services (met ++ packet ∷ []))) →
+      ((met : List (List ℕ)) → StandsFor old met → new.found.at ≡ first_of old.found.at at (is_there_after old.way old.words (met ++ packet ∷ []))) →
       unmarked (MeetsHistory new) (history ++ Live packet labels ∷ []) mark
   met-more packet labels at count stands noted =
       let met = live_packets history in (
         (
           subst (StandsFor new) (sym (flat_map-append packet_in history (Live packet labels ∷ []))) (stands met s.0.0),
-          renamed old.way new.way old.services new.services (history ++ Live packet labels ∷ []) new.found e f
-              (find-met (finds_service old.way old.services) history packet labels at (is_there_after old.way old.services (met ++ packet ∷ [])) old.found new.found s.0.1 count refl (noted met s.0.0)),
+          renamed old.way new.way old.words new.words (history ++ Live packet labels ∷ []) new.found e f
+              (find-met (finds_service old.way old.words) history packet labels at (is_there_after old.way old.words (met ++ packet ∷ [])) old.found new.found s.0.1 count refl (noted met s.0.0)),
         ),
         marked mark history (Live packet labels) s.1,
       )
@@ -138,8 +157,8 @@ module _ (old new : ServiceSteps) (mark : ℕ) (history : List Cell) (e : new.wa
   met-failed failed found = (
     (
       λ works. absurd (true≢false (sym failed ∙ works)),
-      renamed old.way new.way old.services new.services history new.found e f
-          (subst (λ g. IsFirstFind (finds_service old.way old.services) history g) (sym found) s.0.1),
+      renamed old.way new.way old.words new.words history new.found e f
+          (subst (λ g. IsFirstFind (finds_service old.way old.words) history g) (sym found) s.0.1),
     ),
     s.1,
   )
@@ -148,7 +167,7 @@ pub met-dropped : (plugin : ServiceSteps) (mark : ℕ) (history : List Cell) →
 met-dropped plugin mark history s = (
   (
     subst (StandsFor plugin) (sym (flat_map-append packet_in history (Dropped ∷ []) ∙ append-nil (live_packets history))) s.0.0,
-    find-dropped (finds_service plugin.way plugin.services) history plugin.found s.0.1,
+    find-dropped (finds_service plugin.way plugin.words) history plugin.found s.0.1,
   ),
   marked mark history Dropped s.1,
 )

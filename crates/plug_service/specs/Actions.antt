@@ -8,7 +8,9 @@ use Rattle.ts_packet.specs.declared.numbers.TheConstants.{NULL_PID}
 use Rattle.ts_table_rows.specs.TableValues.{TableHolding}
 use Rattle.plug_psi.specs.InForce.{may_have_tables, pat_of, pid_for, pmt_of, services_in}
 use Rattle.plug_psi.specs.ServicePids.{has_pid, pids_of}
-use Rattle.plug_service.specs.Services.{is_one}
+use Rattle.named_services.specs.ServiceLists.{is_one}
+use Rattle.named_services.specs.NamedServices.{services_after}
+use Rattle.named_services.specs.declared.service_word.ServiceWord.{ServiceWord}
 use Rattle.plug_service.specs.declared.kept.Kept.{Kept}
 use Rattle.plug_service.specs.declared.way.Way.{Way}
 use Rattle.plug_service.specs.declared.way.Way.TheVariants.{Keep, Remove}
@@ -95,8 +97,8 @@ action_of way services pat pmts pid =
     action_by way (has_pid (pmt_pids services pat) pid) (has_pid (shared_pids services pat) pid) (is_in_pmts way services pat pmts pid) pid
 
 -- what becomes of packets on a PID after these packets of any PID
-unfoldable pub action_after : Way → List ℕ → List (List ℕ) → ℕ → Action
-action_after way services packets pid = action_of way services (pat_of packets) (λ other. pmt_of other packets) pid
+unfoldable pub action_after : Way → List ServiceWord → List (List ℕ) → ℕ → Action
+action_after way words packets pid = action_of way (services_after words packets) (pat_of packets) (λ other. pmt_of other packets) pid
 
 -- whether packets with this action are edited as those of PMTs
 abbrev pub edits_pmt : Action → Bool

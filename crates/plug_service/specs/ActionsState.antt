@@ -5,7 +5,11 @@ use Rattle.ts_packet.specs.declared.numbers.TheConstants.{PID_COUNT}
 use Rattle.ts_table_rows.specs.TableValues.{TableHolding}
 use Rattle.plug_psi.specs.InForce.{pat_of, pmt_of}
 use Rattle.plug_psi.specs.ForceStands as forcing
+use Rattle.named_services.specs.NamesStand.{NamesStand}
+use Rattle.named_services.specs.declared.service_word.ServiceWord.{ServiceWord}
 use Rattle.plug_service.specs.Actions.{action_of, other_pids}
+use Rattle.plug_service.specs.Present.{present_after}
+use Rattle.plug_service.specs.declared.present.Present.{Present}
 use Rattle.plug_service.specs.declared.way.Way.{Way}
 use Rattle.plug_service.specs.declared.way.Way.TheVariants.{Keep, Remove}
 use Rattle.plug_service.specs.declared.action.Action.{Action}
@@ -22,13 +26,13 @@ protected_pids (Remove everywhere) services pat pmts = other_pids services pat p
 abbrev pub AreActions : Way → List ℕ → List Action → Option TableHolding → (ℕ → Option TableHolding) → Type 0
 AreActions way services row pat pmts = (pid : ℕ) → pid < PID_COUNT → slice_index_or row pid Drop ≡ action_of way services pat pmts pid
 
--- the actions stand for this PAT and these PMTs
-abbrev pub ActionsStand : PidActions → Option TableHolding → (ℕ → Option TableHolding) → Type 0
-ActionsStand actions pat pmts = AreActions actions.way actions.services actions.row pat pmts
+-- the actions stand for this PAT and these PMTs, where these services are meant
+abbrev pub ActionsStand : PidActions → Present → Option TableHolding → (ℕ → Option TableHolding) → Type 0
+ActionsStand actions present pat pmts = AreActions present.way present.services actions.row pat pmts
 
--- the actions and the tables in force stand for the packets that were processed
-pub record FollowsServices (way : Way) (services : List ℕ) (follower : ServiceFollower) (met : List (List ℕ)) : Type 0 where
-  pub same_way : follower.actions.way ≡ way
-  pub same_services : follower.actions.services ≡ services
+-- the actions, the services and the tables in force stand for the packets that were processed
+pub record FollowsServices (way : Way) (words : List ServiceWord) (follower : ServiceFollower) (met : List (List ℕ)) : Type 0 where
+  pub present : follower.present ≡ present_after way words met
+  pub named : NamesStand words follower.names met
   pub forced : forcing.StandsFor follower.force met
-  pub fated : ActionsStand follower.actions (pat_of met) (λ other. pmt_of other met)
+  pub fated : ActionsStand follower.actions follower.present (pat_of met) (λ other. pmt_of other met)

@@ -6,6 +6,8 @@ use Rattle.ts_packet.specs.declared.cell.Cell.{Cell}
 use Rattle.ts_packet.specs.Cells.{live_packets}
 use Rattle.ts_table_rows.specs.TableValues.{TableHolding}
 use Rattle.plug_psi.specs.InForce.{pat_of, pid_for, pmt_of}
+use Rattle.named_services.specs.NamedServices.{services_after}
+use Rattle.named_services.specs.declared.service_word.ServiceWord.{ServiceWord}
 use Rattle.plug_service.specs.declared.way.Way.{Way}
 use Rattle.plug_service.specs.declared.way.Way.TheVariants.{Keep, Remove}
 
@@ -20,9 +22,9 @@ abbrev pub is_any_there : Way → List ℕ → Option TableHolding → (ℕ → 
 is_any_there way services pat pmts = list_any (λ service. is_there way service pat (pmts service)) services
 
 -- one of them is there after these packets of any PID
-abbrev pub is_there_after : Way → List ℕ → List (List ℕ) → Bool
-is_there_after way services packets = is_any_there way services (pat_of packets) (λ service. pmt_of service packets)
+abbrev pub is_there_after : Way → List ServiceWord → List (List ℕ) → Bool
+is_there_after way words packets = is_any_there way (services_after words packets) (pat_of packets) (λ service. pmt_of service packets)
 
 -- one of them is there with a packet, after these cells
-abbrev pub finds_service : Way → List ℕ → List Cell → List ℕ → ℕ → Bool
-finds_service way services history packet labels = is_there_after way services (live_packets history ++ packet ∷ [])
+abbrev pub finds_service : Way → List ServiceWord → List Cell → List ℕ → ℕ → Bool
+finds_service way words history packet labels = is_there_after way words (live_packets history ++ packet ∷ [])

@@ -14,14 +14,16 @@ use Rattle.ts_eit.specs.EitSections.{is_of_service}
 use Rattle.section_flow.specs.Flow.{Edit}
 use Rattle.plug_psi.specs.CurrentTables.{current_in}
 use Rattle.plug_psi.specs.Edits.{Change, same, away}
-use Rattle.plug_psi.specs.InForce.{pat_of}
 use Rattle.plug_psi.specs.InUse.{EditAsMet}
 use Rattle.plug_psi.specs.NumbersHeld.{number_at}
 use Rattle.plug_psi.specs.TableChange.{changed_current, of_id}
 use Rattle.service_items.specs.ServiceItems.{edited_items}
 pub use Rattle.service_items.specs.StreamTables.{is_bat, stream_of}
-use Rattle.plug_service.specs.Services.{is_one}
+use Rattle.named_services.specs.ServiceLists.{is_one}
+use Rattle.named_services.specs.declared.service_word.ServiceWord.{ServiceWord}
+use Rattle.plug_service.specs.Present.{hides, present_after}
 use Rattle.plug_service.specs.declared.kept.Kept.{Kept}
+use Rattle.plug_service.specs.declared.present.Present.{Present}
 use Rattle.plug_service.specs.declared.way.Way.{Way}
 use Rattle.plug_service.specs.declared.way.Way.TheVariants.{Keep, Remove}
 
@@ -83,12 +85,29 @@ sdt_change (Keep kept) services stream run = if is_current_sdt run then edited_s
 sdt_change (Remove everywhere) services stream run =
     if everywhere && is_bat run then bat_change services stream run else edited_sdt (Remove everywhere) services run
 
--- the same after packets of any PID, where the transport stream is that of the PAT in force
-abbrev pub nit_edit : List ℕ → EditAsMet
-nit_edit services met = nit_change services (stream_of (pat_of met))
+-- a change, or, where it is not known yet which services are kept, none of the tables is carried
+abbrev pub known_change : Bool → Change → Change
+known_change hidden change = if hidden then away else change
 
-abbrev pub sdt_edit : Way → List ℕ → EditAsMet
-sdt_edit way services met = sdt_change way services (stream_of (pat_of met))
+-- what is made of tables by what is in force
+abbrev pub pat_by : Present → List (List ℕ) → Change
+pat_by present run = known_change (hides present.way present.unknown) (pat_change present.way present.services run)
+
+abbrev pub sdt_by : Present → List (List ℕ) → Change
+sdt_by present run = known_change (hides present.way present.unknown) (sdt_change present.way present.services present.stream run)
+
+abbrev pub nit_by : Present → List (List ℕ) → Change
+nit_by present run = nit_change present.services present.stream run
+
+-- the same after packets of any PID
+abbrev pub pat_edit : Way → List ServiceWord → EditAsMet
+pat_edit way words met = pat_by (present_after way words met)
+
+abbrev pub sdt_edit : Way → List ServiceWord → EditAsMet
+sdt_edit way words met = sdt_by (present_after way words met)
+
+abbrev pub nit_edit : Way → List ServiceWord → EditAsMet
+nit_edit way words met = nit_by (present_after way words met)
 
 -- whether a section is an EIT section of one of the services
 abbrev pub is_of_one : List ℕ → List ℕ → Bool
@@ -107,9 +126,13 @@ abbrev pub eit_change : Way → List ℕ → List ℕ → Option (List ℕ)
 eit_change (Keep kept) services section = kept_eit services section
 eit_change (Remove everywhere) services section = others_eit services section
 
--- the same whatever packets were met
-abbrev pub eit_edit : Way → List ℕ → Edit
-eit_edit way services packets = eit_change way services
+-- the same by what is in force
+abbrev pub eit_by : Present → List ℕ → Option (List ℕ)
+eit_by present section = eit_change present.way present.services section
+
+-- and after packets of any PID
+abbrev pub eit_edit : Way → List ServiceWord → Edit
+eit_edit way words packets = eit_by (present_after way words packets)
 
 -- a PMT that is there is carried as it is, if it is that of one of the services, and nothing else
 abbrev pub carried_if_one : List ℕ → Option TableHolding → Change
@@ -120,3 +143,10 @@ carried_if_one services (Some pmt) = if is_one services pmt.head.extension then 
 -- other table; services on one PID have their PMTs there together
 abbrev pub pmt_change : List ℕ → List (List ℕ) → Change
 pmt_change services run = carried_if_one services (current_in (read_run pmt_page run))
+
+-- the same by what is in force, and after packets of any PID
+abbrev pub pmt_by : Present → List (List ℕ) → Change
+pmt_by present run = pmt_change present.services run
+
+abbrev pub pmt_edit : Way → List ServiceWord → EditAsMet
+pmt_edit way words met = pmt_by (present_after way words met)

@@ -1,24 +1,25 @@
 -- The options of `zap` and `svremove`, and their settings from the values.
 -- This project's own rule.
-use Rattle.std.specs.Prelude.{ℕ, ◌==◌, List, [], ◌∷◌, codes, filter_map, length, nat_le, not}
+use Rattle.std.specs.Prelude.{ℕ, ◌==◌, List, [], ◌∷◌, codes, length, nat_le, not}
 use Rattle.clap.specs.Walk.{Row}
-use Rattle.plugin_options.specs.Forms.{number}
-use Rattle.plugin_options.specs.Number.{number_within}
+use Rattle.plugin_options.specs.Forms.{known}
 use Rattle.plugin_options.specs.Options.{OptionRow, flag, has_flag, operands, values_of}
 use Rattle.plugin_options.specs.OptionTable.{OptionTable}
-use Rattle.plug_service.specs.Services.{each_once}
-use Rattle.plug_service.specs.declared.limits.TheConstants.{LAST_SERVICE, MOST_SERVICES}
+use Rattle.plugin_options.specs.ServiceTexts.{is_service}
+use Rattle.named_services.specs.ServiceWords.{words_of}
+use Rattle.named_services.specs.declared.service_word.ServiceWord.{ServiceWord}
+use Rattle.plug_service.specs.declared.limits.TheConstants.{MOST_SERVICES}
 use Rattle.plug_service.specs.declared.service_conf.ServiceConf.{ServiceConf}
 
--- the operands are the numbers of the services, 1 to 65535
+-- the operands are the services, by number or by name
 abbrev pub service_rows : List OptionRow
-service_rows = record { name = codes "operand"; kind = operands (number 1 LAST_SERVICE) }
+service_rows = record { name = codes "operand"; kind = operands (known is_service) }
     ∷ record { name = codes "stuffing"; kind = flag }
     ∷ []
 
--- the services: each number once, however often it is given
-abbrev pub services_found : List Row → List ℕ
-services_found found = each_once (filter_map (number_within 1 LAST_SERVICE) (values_of (codes "operand") found))
+-- the words that say which services are meant: each once, however often it is given
+abbrev pub services_found : List Row → List ServiceWord
+services_found found = words_of (values_of (codes "operand") found)
 
 -- the settings from the values that were found
 abbrev pub service_settings : List Row → ServiceConf

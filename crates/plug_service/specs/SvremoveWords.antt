@@ -1,16 +1,16 @@
 -- The options of `svremove`, and its settings from the values.
 -- This project's own rule.
 use Rattle.std.specs.Prelude.{List, [], ◌∷◌, codes}
-use Rattle.plugin_options.specs.Forms.{number}
+use Rattle.plugin_options.specs.Forms.{known}
 use Rattle.plugin_options.specs.Options.{OptionRow, flag, has_flag, operands}
 use Rattle.plugin_options.specs.OptionTable.{OptionTable}
+use Rattle.plugin_options.specs.ServiceTexts.{is_service}
 use Rattle.plug_service.specs.ServiceWords.{service_options}
-use Rattle.plug_service.specs.declared.limits.TheConstants.{LAST_SERVICE}
 use Rattle.plug_service.specs.declared.svremove_conf.SvremoveConf.{SvremoveConf}
 
--- the operands are the numbers of the services, 1 to 65535
+-- the operands are the services, by number or by name
 abbrev pub svremove_rows : List OptionRow
-svremove_rows = record { name = codes "operand"; kind = operands (number 1 LAST_SERVICE) }
+svremove_rows = record { name = codes "operand"; kind = operands (known is_service) }
     ∷ record { name = codes "everywhere"; kind = flag }
     ∷ record { name = codes "stuffing"; kind = flag }
     ∷ []

@@ -5,12 +5,12 @@ use Rattle.std.specs.List.{list_any}
 use Rattle.std.specs.Option.{option_map_or}
 use Rattle.std.specs.Str.{bytes_eq}
 use Rattle.clap.specs.Walk.{Row}
-use Rattle.plugin_options.specs.Forms.{known, number}
+use Rattle.plugin_options.specs.Forms.{known}
 use Rattle.plugin_options.specs.Options.{OptionRow, flag, operands, value, value_of}
 use Rattle.plugin_options.specs.OptionTable.{OptionTable}
+use Rattle.plugin_options.specs.ServiceTexts.{is_service}
 use Rattle.plugin_options.specs.WordLists.{are_known, has_part}
 use Rattle.plug_service.specs.ServiceWords.{service_options}
-use Rattle.plug_service.specs.declared.limits.TheConstants.{LAST_SERVICE}
 use Rattle.plug_service.specs.declared.kept.Kept.{Kept}
 use Rattle.plug_service.specs.declared.zap_conf.ZapConf.{ZapConf}
 
@@ -18,9 +18,9 @@ use Rattle.plug_service.specs.declared.zap_conf.ZapConf.{ZapConf}
 abbrev pub is_kept_word : List ℕ → Bool
 is_kept_word word = list_any (λ name. bytes_eq name word) (codes "nit" ∷ codes "bat" ∷ codes "eit" ∷ codes "time" ∷ [])
 
--- the operands are the numbers of the services, 1 to 65535
+-- the operands are the services, by number or by name
 abbrev pub zap_rows : List OptionRow
-zap_rows = record { name = codes "operand"; kind = operands (number 1 LAST_SERVICE) }
+zap_rows = record { name = codes "operand"; kind = operands (known is_service) }
     ∷ record { name = codes "keep"; kind = value (known (are_known is_kept_word)) }
     ∷ record { name = codes "stuffing"; kind = flag }
     ∷ []

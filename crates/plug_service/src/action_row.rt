@@ -15,9 +15,10 @@ ghost use Rattle.plug_service.specs.declared.action.Action.TheVariants.{EditPmt,
 use crate::action::Action;
 use crate::kept::Kept;
 use crate::limits::{EIT_PID, LAST_FIXED_PID, NIT_PID, PAT_PID, SDT_PID, TIME_PID};
-use crate::service_list::ServiceList;
+use crate::present::Present;
 use crate::services::{pmt_pids, shared_pids};
 use crate::way::Way;
+use named_services::ServiceList;
 use plug_psi::{InForce, add_pids, number_and_pid, tell};
 use std::alloc::{AllocError, Global};
 use ts_packet::{NULL_PID, PID_COUNT, PidRow};
@@ -26,14 +27,15 @@ use ts_psi::PatService;
 /// The action of the packets on each PID by the tables in force.
 pub(crate) fn action_row(
     alloc: Global,
-    way: Way,
+    present: &Present,
     force: &InForce,
-    services: &ServiceList,
 ) -> Result<PidRow<Action>, AllocError>
     ensures editable { IfOk result (λ row. (pid : ℕ) → pid < PID_COUNT → slice_index_or row pid Dropped ≡ EditPmt → pid < NULL_PID) }
     ensures stands { IfOk result (λ row. (fed : List (List ℕ)) → Forced force.now fed
-        → AreActions way services.now row (pat_of fed) (λ other. pmt_of other fed)) }
+        → AreActions present.now.way present.now.services row (pat_of fed) (λ other. pmt_of other fed)) }
 {
+    let way = present.way;
+    let services = &present.services;
     let own = own_pids(alloc, force, services.as_slice())?;
     let others = pids_to_spare(alloc, way, force, services)?;
     let firsts = pmt_pids(alloc, force.pat(), services.as_slice())?;

@@ -3,24 +3,19 @@
 ghost use Rattle.std.specs.Prelude.{◌≡◌};
 ghost use Rattle.plug_service.specs.ServiceEdits;
 
-use crate::service_list::ServiceList;
+use crate::present::Present;
 use crate::way::Way;
+use named_services::ServiceList;
 use section_flow::{SectionChange, SectionEdit};
 use std::alloc::{AllocError, Global};
 use ts_eit::is_of_service;
 use ts_section::Section;
 
-/// Gives the EIT sections of services as they are, and no other section; if services are removed, it gives all others.
-#[derive(Drop)]
-pub(crate) struct EitPart {
-    pub(crate) way: Way,
-    pub(crate) services: ServiceList,
-}
+// Gives the EIT sections of services as they are, and no other section; if services are removed, it gives all others.
+impl SectionEdit for Present {
+    ghost use Rattle.plug_service.specs.ServiceEdits.{eit_by};
 
-impl SectionEdit for EitPart {
-    ghost use Rattle.plug_service.specs.ServiceEdits.{eit_change};
-
-    ghost edited = { λ e section. eit_change e.way e.services section };
+    ghost edited = { λ present section. eit_by present section };
 
     fn edit(&self, _alloc: Global, section: &Section) -> Result<SectionChange, AllocError> {
         let is_one = is_of_one(&self.services, section);

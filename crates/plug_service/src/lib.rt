@@ -8,10 +8,10 @@
 macro_rules! services_row {
     () => {
         OptionRow {
-            word: OptionWord::Operands("operand", Takes::Number(1, LAST_SERVICE)),
+            word: OptionWord::Operands("operand", Takes::Service),
             text: OptionText {
-                value: "N",
-                meaning: "1 to 65535: a service's number in the PAT, which info reports beside its name; up to 62 of them",
+                value: "S",
+                meaning: "1 to 65535: a service's number in the PAT; or its name, letter for letter as info reports it beside the number; up to 62 of them",
                 need: Need::Required,
                 beside: Beside::Any,
             },
@@ -44,10 +44,10 @@ mod nit_part;
 mod pat_part;
 mod pid_actions;
 mod pmt_alone;
+mod present;
 mod sdt_part;
 mod service_conf;
 mod service_follower;
-mod service_list;
 mod service_steps;
 mod service_words;
 mod services;
@@ -61,7 +61,6 @@ mod zap_words;
 
 pub use kept::Kept;
 pub use service_conf::ServiceConf;
-pub use service_list::ServiceList;
 pub use service_steps::ServiceSteps;
 pub use svremove::{Svremove, new_svremove};
 pub use svremove_conf::SvremoveConf;

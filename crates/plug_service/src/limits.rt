@@ -1,4 +1,4 @@
-//! The PIDs of tables that are edited or kept, the greatest number of a service, and how many services there may be.
+//! The PIDs of tables that are edited or kept, and how many services there may be.
 
 /// The PID of the PAT (ISO/IEC 13818-1, 2.4.4.4).
 pub(crate) const PAT_PID: u16 = 0;
@@ -17,9 +17,6 @@ pub(crate) const TIME_PID: u16 = 20;
 
 /// The greatest PID whose packets pass even if the PMT of a service that is removed has the PID.
 pub(crate) const LAST_FIXED_PID: u16 = 31;
-
-/// The greatest number of a service.
-pub(crate) const LAST_SERVICE: u64 = 65535;
 
 /// The most services of a plugin.
 pub(crate) const MOST_SERVICES: usize = 62;

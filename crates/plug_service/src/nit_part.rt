@@ -1,36 +1,28 @@
 //! The edit of NITs if services are removed everywhere (ETSI EN 300 468, 5.2.1).
 
-ghost use Rattle.std.specs.Prelude.{◌≡◌, ◌++◌, ◌∷◌, ℕ, [], List, IfOk, OnOk, None, option_map, true};
-ghost use Rattle.ts_packet.specs.Header.{pid_of};
-ghost use Rattle.plug_psi.specs.InForce.{pat_of};
-ghost use Rattle.plug_psi.specs.InUse.{replaced_as};
-ghost use Rattle.plug_service.specs.Actions.{edits_nits};
-ghost use Rattle.plug_service.specs.EditorsState.{EditsNits};
-ghost use Rattle.plug_service.specs.ServiceEdits.{nit_edit, stream_of};
+ghost use Rattle.std.specs.Prelude.{◌≡◌, IfOk, None, option_map};
 ghost use Rattle.ts_si.specs.SiTables.{nit_held};
 ghost use Rattle.service_items.specs.ServiceItems.{edited_items};
 
-use crate::service_list::ServiceList;
-use crate::way::Way;
-use plug_psi::{Edited, TableEdit, VariedEditor, read_current, sections_or_same};
-use service_items::{OfStream, edited_streams, set_stream};
+use crate::present::Present;
+use named_services::ServiceList;
+use plug_psi::{Edited, TableEdit, read_current, sections_or_same};
+use service_items::edited_streams;
 use std::alloc::{AllocError, Global};
-use ts_packet::Packet;
 use ts_section::TableRun;
 use ts_si::Nit;
+use varied_edits::EditFrom;
 
 /// Removes the items of services from each current NIT of the actual network that reads.
 #[derive(Drop)]
 pub(crate) struct NitPart {
-    pub(crate) services: ServiceList,
-    /// The transport_stream_id of the PAT in force, if there is one.
-    pub(crate) stream: Option<u16>,
+    pub(crate) present: Present,
 }
 
 impl TableEdit for NitPart {
-    ghost use Rattle.plug_service.specs.ServiceEdits.{nit_change};
+    ghost use Rattle.plug_service.specs.ServiceEdits.{nit_by};
 
-    ghost change = { λ s run. nit_change s.services s.stream run };
+    ghost change = { λ s run. nit_by s.present run };
 
     fn edit(&self, alloc: Global, run: &TableRun) -> Result<Edited, AllocError> {
         let Some(nit) = read_current::<Nit>(alloc, run)? else {
@@ -39,45 +31,28 @@ impl TableEdit for NitPart {
         if !nit.actual {
             return Ok(Edited::same());
         }
-        let Some(nit) = nit_without(alloc, &self.services, self.stream, nit)? else {
+        let Some(nit) = nit_without(alloc, &self.present.services, self.present.stream, nit)? else {
             return Ok(Edited::same());
         };
         sections_or_same(nit.sections(alloc))
     }
 }
 
-impl OfStream for NitPart {
-    ghost at_stream = { λ to s. record s { stream = to } };
+impl EditFrom for NitPart {
+    ghost use Rattle.plug_service.specs.ServiceEdits.{nit_by};
 
-    fn stream(&self) -> Option<u16> {
-        self.stream
+    type Source = Present;
+
+    ghost made_from = { λ present run. nit_by present run };
+
+    fn is_from(&self, present: &Present) -> bool {
+        self.present.is_same(present)
     }
 
-    fn with_stream(&self, alloc: Global, stream: Option<u16>) -> Result<NitPart, AllocError> {
-        let services = self.services.copy(alloc)?;
-        Ok(NitPart { services, stream })
+    fn from_source(alloc: Global, present: &Present) -> Result<NitPart, AllocError> {
+        let present = present.copy(alloc)?;
+        Ok(NitPart { present })
     }
-}
-
-/// Takes a packet on PID 16, where NITs are edited and a transport stream is that of the PAT in force, and returns the packet
-/// for its place. After `AllocError` the editor is not to be used any more.
-pub(crate) fn take_nit(
-    alloc: Global,
-    at: u64,
-    stream: Option<u16>,
-    editor: &mut VariedEditor<NitPart>,
-    packet: &Packet,
-) -> Result<Packet, AllocError>
-    ensures made { IfOk result (λ new. (way : Way) (services : List ℕ) (met : List (List ℕ)) → EditsNits way services editor.old met
-        → edits_nits way ≡ true → pid_of packet.now ≡ 16 → stream ≡ stream_of (pat_of (met ++ packet.now ∷ []))
-        → new ≡ replaced_as 16 (nit_edit services) met packet.now) }
-    ensures stands { OnOk result ((way : Way) (services : List ℕ) (met : List (List ℕ)) → EditsNits way services editor.old met
-        → edits_nits way ≡ true → pid_of packet.now ≡ 16 → stream ≡ stream_of (pat_of (met ++ packet.now ∷ []))
-        → EditsNits way services editor.new (met ++ packet.now ∷ [])) }
-{
-    set_stream(alloc, editor, stream)?;
-    let new = editor.take(alloc, at, packet)?;
-    Ok(new)
 }
 
 /// A NIT without the items of services; `None` if they have none there.

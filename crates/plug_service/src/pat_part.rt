@@ -1,52 +1,66 @@
 //! The edit of a PAT if services are kept or removed (ISO/IEC 13818-1, 2.4.4.3).
 
-ghost use Rattle.std.specs.Prelude.{◌≡◌, ◌<◌, filter, map};
+ghost use Rattle.std.specs.Prelude.{◌≡◌, ◌<◌, IfOk, filter, map};
 ghost use Rattle.ts_psi.specs.PatTables.{pat_held, service_item};
+ghost use Rattle.plug_service.specs.ServiceEdits;
 ghost use Rattle.plug_service.specs.ServiceEdits.{entry_stays, with_items};
 
-use crate::service_list::ServiceList;
+use crate::present::Present;
 use crate::services::stays;
 use crate::way::Way;
-use plug_psi::{Edited, SeededEdit, TableEdit, read_current, sections_or_same};
+use named_services::ServiceList;
+use plug_psi::{Edited, TableEdit, read_current, sections_or_same};
 use std::alloc::{AllocError, Global};
 use ts_psi::{Pat, PatService, PatServiceList};
 use ts_section::TableRun;
+use varied_edits::EditFrom;
 
-/// Removes the services that do not stay from each current PAT that reads.
+/// Removes the services that do not stay from each current PAT that reads; carries none where it is not known yet which are
+/// kept.
 #[derive(Drop)]
 pub(crate) struct PatPart {
-    pub(crate) way: Way,
-    pub(crate) services: ServiceList,
+    pub(crate) present: Present,
 }
 
 impl TableEdit for PatPart {
-    ghost use Rattle.plug_service.specs.ServiceEdits.{pat_change};
+    ghost use Rattle.plug_service.specs.ServiceEdits.{pat_by};
 
-    ghost change = { λ s run. pat_change s.way s.services run };
+    ghost change = { λ s run. pat_by s.present run };
 
     fn edit(&self, alloc: Global, run: &TableRun) -> Result<Edited, AllocError> {
-        let Some(pat) = read_current::<Pat>(alloc, run)? else {
-            return Ok(Edited::same());
-        };
-        let edited = part_of_pat(self.way, &self.services, pat);
-        sections_or_same(edited.sections(alloc))
+        if self.present.hides() {
+            return Ok(Edited::away());
+        }
+        edit_pat(alloc, &self.present, run)
     }
 }
 
-impl SeededEdit for PatPart {
-    ghost use Rattle.plug_service.specs.ServiceEdits.{pat_change};
+impl EditFrom for PatPart {
+    ghost use Rattle.plug_service.specs.ServiceEdits.{pat_by};
 
-    type Seed = PatPart;
+    type Source = Present;
 
-    ghost change_on = { λ seed pid run. pat_change seed.way seed.services run };
+    ghost made_from = { λ present run. pat_by present run };
 
-    fn on(alloc: Global, seed: &PatPart, _pid: u16) -> Result<PatPart, AllocError> {
-        let services = seed.services.copy(alloc)?;
-        Ok(PatPart {
-            way: seed.way,
-            services,
-        })
+    fn is_from(&self, present: &Present) -> bool {
+        self.present.is_same(present)
     }
+
+    fn from_source(alloc: Global, present: &Present) -> Result<PatPart, AllocError> {
+        let present = present.copy(alloc)?;
+        Ok(PatPart { present })
+    }
+}
+
+/// Removes the services that do not stay from a current PAT that reads.
+fn edit_pat(alloc: Global, present: &Present, run: &TableRun) -> Result<Edited, AllocError>
+    ensures { IfOk result (λ edited. edited ≡ ServiceEdits.pat_change present.now.way present.now.services run.now) }
+{
+    let Some(pat) = read_current::<Pat>(alloc, run)? else {
+        return Ok(Edited::same());
+    };
+    let edited = part_of_pat(present.way, &present.services, pat);
+    sections_or_same(edited.sections(alloc))
 }
 
 /// A PAT with the services that stay.

@@ -7,21 +7,19 @@ ghost use Rattle.plug_psi.specs.InForce.{pat_of, pmt_of};
 ghost use Rattle.plug_psi.specs.ForceStands.{StandsFor as Forced};
 ghost use Rattle.plug_service.specs.Actions.{IsEditable, action_of};
 ghost use Rattle.plug_service.specs.declared.action.Action.TheVariants.{EditPmt, Drop as Dropped};
+ghost use Rattle.plug_service.specs.declared.present.Present.{Present as GivenPresent};
 
 use crate::action::Action;
 use crate::action_row::action_row;
-use crate::service_list::ServiceList;
-use crate::way::Way;
+use crate::present::Present;
 use plug_psi::InForce;
 use std::alloc::{AllocError, Global};
 use ts_packet::PidRow;
 
-/// What becomes of the packets on each PID if services are kept or removed, found by a look-up. It is renewed when
-/// another PAT or another PMT comes into force.
+/// What becomes of the packets on each PID if services are kept or removed, found by a look-up. It is renewed when other
+/// services are meant, and when another PAT or another PMT comes into force.
 #[derive(Drop)]
 pub(crate) struct PidActions {
-    pub(crate) way: Way,
-    pub(crate) services: ServiceList,
     /// The action of the packets on each PID.
     pub(crate) row: PidRow<Action>,
     ghost editable: { (pid : ℕ) → pid < PID_COUNT → slice_index_or row pid Dropped ≡ EditPmt → pid < NULL_PID },
@@ -30,19 +28,9 @@ pub(crate) struct PidActions {
 impl PidActions {
     ghost use Rattle.plug_service.specs.ActionsState.{ActionsStand};
 
-    /// Actions without tables, which are renewed before they are used. Allocates a byte for each PID, and two bytes for each
-    /// service.
-    pub(crate) fn new(
-        alloc: Global,
-        way: Way,
-        services: &ServiceList,
-    ) -> Result<PidActions, AllocError>
-        ensures way { IfOk result (λ actions. actions.way ≡ way) }
-        ensures services { IfOk result (λ actions. actions.services ≡ services.now) }
-    {
+    /// Actions without tables, which are renewed before they are used. Allocates a byte for each PID.
+    pub(crate) fn new(alloc: Global) -> Result<PidActions, AllocError> {
         Ok(PidActions {
-            way,
-            services: services.copy(alloc)?,
             row: PidRow::filled(alloc, Action::Drop)?,
         })
     }
@@ -51,22 +39,25 @@ impl PidActions {
     #[inline]
     pub(crate) fn action(&self, pid: u16) -> Action
         requires { pid < PID_COUNT }
-        ensures tells { (pat : Option TableHolding) (pmts : ℕ → Option TableHolding) → ActionsStand self.now pat pmts
-            → result ≡ action_of self.now.way self.now.services pat pmts pid }
+        ensures tells { (present : GivenPresent) (pat : Option TableHolding) (pmts : ℕ → Option TableHolding) → ActionsStand self.now present pat pmts
+            → result ≡ action_of present.way present.services pat pmts pid }
         ensures editable { IsEditable result pid }
     {
         self.row.get(pid)
     }
 
-    /// Other tables are in force. Allocates memory on the way, and keeps as much as before.
+    /// Other services are meant, or other tables are in force. Allocates memory on the way, and keeps as much as before.
     #[inline(never)]
-    pub(crate) fn renew(&mut self, alloc: Global, force: &InForce) -> Result<(), AllocError>
-        ensures stands { OnOk result ((fed : List (List ℕ)) → Forced force.now fed
-            → ActionsStand self.new (pat_of fed) (λ other. pmt_of other fed)) }
-        ensures way { self.new.way ≡ self.old.way }
-        ensures services { self.new.services ≡ self.old.services }
+    pub(crate) fn renew(
+        &mut self,
+        alloc: Global,
+        present: &Present,
+        force: &InForce,
+    ) -> Result<(), AllocError>
+        ensures { OnOk result ((fed : List (List ℕ)) → Forced force.now fed
+            → ActionsStand self.new present.now (pat_of fed) (λ other. pmt_of other fed)) }
     {
-        self.row = action_row(alloc, self.way, force, &self.services)?;
+        self.row = action_row(alloc, present, force)?;
         Ok(())
     }
 }

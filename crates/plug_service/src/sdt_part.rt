@@ -1,91 +1,75 @@
 //! The edit of SDTs and BATs if services are kept or removed (ETSI EN 300 468, 5.2.2 and 5.2.3).
 
-ghost use Rattle.std.specs.Prelude.{◌≡◌, ◌++◌, ◌∷◌, ℕ, [], List, IfOk, OnOk, None, filter, map, option_map};
-ghost use Rattle.ts_packet.specs.Header.{pid_of};
+ghost use Rattle.std.specs.Prelude.{◌≡◌, IfOk, None, filter, map, option_map};
 ghost use Rattle.service_items.specs.ServiceItems.{edited_items};
 ghost use Rattle.ts_si.specs.SiTables.{bat_held, sdt_held, service_item};
 ghost use Rattle.plug_service.specs.ServiceEdits;
-ghost use Rattle.plug_psi.specs.InForce.{pat_of};
-ghost use Rattle.plug_psi.specs.InUse.{replaced_as};
-ghost use Rattle.plug_service.specs.EditorsState.{EditsSdts};
-ghost use Rattle.plug_service.specs.ServiceEdits.{edited_sdt, sdt_edit, service_stays, stream_of, with_items};
+ghost use Rattle.plug_service.specs.ServiceEdits.{edited_sdt, service_stays, with_items};
 
 use crate::kept::Kept;
-use crate::service_list::ServiceList;
+use crate::present::Present;
 use crate::services::stays;
 use crate::way::Way;
-use plug_psi::{Edited, TableEdit, VariedEditor, read_current, sections_or_same};
-use service_items::{OfStream, edited_streams, is_bat, set_stream};
+use named_services::ServiceList;
+use plug_psi::{Edited, TableEdit, read_current, sections_or_same};
+use service_items::{edited_streams, is_bat};
 use std::alloc::{AllocError, Global};
-use ts_packet::Packet;
 use ts_section::TableRun;
 use ts_si::{Bat, Sdt, SdtService, SdtServiceList};
+use varied_edits::EditFrom;
 
 /// Removes the services that do not stay from each current SDT of the actual transport stream that reads. If services are
 /// kept, tables that are current and have the table_id of such an SDT are carried, and where BATs are kept too, tables with
-/// the table_id of one as they are, and no others. If services are removed everywhere, it removes their items from each
-/// current BAT that reads.
+/// the table_id of one as they are, and no others; where it is not known yet which are kept, none at all. If services are
+/// removed everywhere, it removes their items from each current BAT that reads.
 #[derive(Drop)]
 pub(crate) struct SdtPart {
-    pub(crate) way: Way,
-    pub(crate) services: ServiceList,
-    /// The transport_stream_id of the PAT in force, if there is one.
-    pub(crate) stream: Option<u16>,
+    pub(crate) present: Present,
 }
 
 impl TableEdit for SdtPart {
-    ghost use Rattle.plug_service.specs.ServiceEdits.{sdt_change};
+    ghost use Rattle.plug_service.specs.ServiceEdits.{sdt_by};
 
-    ghost change = { λ s run. sdt_change s.way s.services s.stream run };
+    ghost change = { λ s run. sdt_by s.present run };
 
     fn edit(&self, alloc: Global, run: &TableRun) -> Result<Edited, AllocError> {
-        match self.way {
-            Way::Keep(kept) if !is_current_sdt(run) => Ok(other_table(kept, run)),
-            Way::Keep(_) => edit_sdt(alloc, self.way, &self.services, run),
-            Way::Remove { everywhere } if everywhere && is_bat(run) => {
-                edit_bat(alloc, &self.services, self.stream, run)
-            }
-            Way::Remove { .. } => edit_sdt(alloc, self.way, &self.services, run),
+        if self.present.hides() {
+            return Ok(Edited::away());
         }
+        edit_table(alloc, &self.present, run)
     }
 }
 
-impl OfStream for SdtPart {
-    ghost at_stream = { λ to s. record s { stream = to } };
+impl EditFrom for SdtPart {
+    ghost use Rattle.plug_service.specs.ServiceEdits.{sdt_by};
 
-    fn stream(&self) -> Option<u16> {
-        self.stream
+    type Source = Present;
+
+    ghost made_from = { λ present run. sdt_by present run };
+
+    fn is_from(&self, present: &Present) -> bool {
+        self.present.is_same(present)
     }
 
-    fn with_stream(&self, alloc: Global, stream: Option<u16>) -> Result<SdtPart, AllocError> {
-        let services = self.services.copy(alloc)?;
-        Ok(SdtPart {
-            way: self.way,
-            services,
-            stream,
-        })
+    fn from_source(alloc: Global, present: &Present) -> Result<SdtPart, AllocError> {
+        let present = present.copy(alloc)?;
+        Ok(SdtPart { present })
     }
 }
 
-/// Takes a packet on PID 17 where a transport stream is that of the PAT in force, and returns the packet for its place. After
-/// `AllocError` the editor is not to be used any more.
-pub(crate) fn take_sdt(
-    alloc: Global,
-    at: u64,
-    stream: Option<u16>,
-    editor: &mut VariedEditor<SdtPart>,
-    packet: &Packet,
-) -> Result<Packet, AllocError>
-    ensures made { IfOk result (λ new. (way : Way) (services : List ℕ) (met : List (List ℕ)) → EditsSdts way services editor.old met
-        → pid_of packet.now ≡ 17 → stream ≡ stream_of (pat_of (met ++ packet.now ∷ []))
-        → new ≡ replaced_as 17 (sdt_edit way services) met packet.now) }
-    ensures stands { OnOk result ((way : Way) (services : List ℕ) (met : List (List ℕ)) → EditsSdts way services editor.old met
-        → pid_of packet.now ≡ 17 → stream ≡ stream_of (pat_of (met ++ packet.now ∷ []))
-        → EditsSdts way services editor.new (met ++ packet.now ∷ [])) }
+/// Edits a table on PID 17, where it is known which services are meant.
+fn edit_table(alloc: Global, present: &Present, run: &TableRun) -> Result<Edited, AllocError>
+    ensures { IfOk result (λ edited. edited
+        ≡ ServiceEdits.sdt_change present.now.way present.now.services present.now.stream run.now) }
 {
-    set_stream(alloc, editor, stream)?;
-    let new = editor.take(alloc, at, packet)?;
-    Ok(new)
+    match present.way {
+        Way::Keep(kept) if !is_current_sdt(run) => Ok(other_table(kept, run)),
+        Way::Keep(_) => edit_sdt(alloc, present.way, &present.services, run),
+        Way::Remove { everywhere } if everywhere && is_bat(run) => {
+            edit_bat(alloc, &present.services, present.stream, run)
+        }
+        Way::Remove { .. } => edit_sdt(alloc, present.way, &present.services, run),
+    }
 }
 
 /// Removes the services that do not stay from a current SDT of the actual transport stream that reads.

@@ -3,6 +3,7 @@
 ghost use Rattle.std.specs.Prelude.{◌≡◌, ℕ, ◌++◌, ◌∷◌, [], List, None, true, false, IfOk, IsOk, OnOk, OnErr};
 ghost use Rattle.ts_packet.specs.Header.{pid_of};
 ghost use Rattle.plugin_trait.specs.Finding.{first_of};
+ghost use Rattle.named_services.specs.declared.service_word.ServiceWord.{ServiceWord};
 ghost use Rattle.plug_service.specs.Actions.{may_be_read};
 ghost use Rattle.plug_service.specs.ActionsState.{FollowsServices};
 ghost use Rattle.plug_service.specs.Presence.{is_there_after};
@@ -12,8 +13,8 @@ ghost use Rattle.plug_service.specs.EditorsState.{left_by};
 
 use crate::editors::Editors;
 use crate::service_follower::ServiceFollower;
-use crate::service_list::ServiceList;
 use crate::way::Way;
+use named_services::ServiceWords;
 use plug_psi::{Changes, FailureLatch, Unedited, both, pid_of_service};
 use plugin_trait::{FirstFind, Outcome, Steps};
 use std::alloc::{AllocError, Global};
@@ -25,7 +26,7 @@ use ts_packet::{Labels, Packet};
 #[derive(Drop)]
 pub struct ServiceSteps {
     pub(crate) way: Way,
-    pub(crate) services: ServiceList,
+    pub(crate) words: ServiceWords,
     pub(crate) stuffing: bool,
     pub(crate) follower: ServiceFollower,
     pub(crate) editors: Editors,
@@ -42,22 +43,22 @@ impl ServiceSteps {
     pub(crate) fn new(
         alloc: Global,
         way: Way,
-        services: &ServiceList,
+        words: &ServiceWords,
         stuffing: bool,
     ) -> Result<ServiceSteps, AllocError>
         ensures stands { IfOk result (λ plugin. StandsFor plugin []) }
         ensures found { IfOk result (λ plugin. plugin.found.at ≡ None) }
         ensures way { IfOk result (λ plugin. plugin.way ≡ way) }
-        ensures services { IfOk result (λ plugin. plugin.services ≡ services.now) }
+        ensures words { IfOk result (λ plugin. plugin.words ≡ words.now) }
         ensures stuffing { IfOk result (λ plugin. plugin.stuffing ≡ stuffing) }
     {
-        let own = services.copy(alloc)?;
-        let follower = ServiceFollower::new(alloc, way, services)?;
-        let editors = Editors::new(alloc, way, services);
+        let own = words.copy(alloc)?;
+        let follower = ServiceFollower::new(alloc, way, words)?;
+        let editors = Editors::new(alloc, &follower.present);
         let (follower, editors) = both(follower, editors)?;
         Ok(ServiceSteps {
             way,
-            services: own,
+            words: own,
             stuffing,
             follower,
             editors,
@@ -73,7 +74,7 @@ impl ServiceSteps {
         if self.follower.force.pat().is_none() {
             return Some(Unedited::NoPat);
         }
-        for service in self.services.as_slice() {
+        for service in self.follower.present.services.as_slice() {
             let missing = self.missing(*service);
             if missing.is_some() {
                 return missing;
@@ -105,15 +106,15 @@ impl ServiceSteps {
     #[inline]
     fn take(&mut self, at: u64, packet: &mut Packet) -> Result<bool, AllocError>
         ensures made { IfOk result (λ passes. (met : List (List ℕ)) → StandsFor self.old met
-            → left_by passes packet.new ≡ made_of self.old.way self.old.services met packet.old) }
+            → left_by passes packet.new ≡ made_of self.old.way self.old.words met packet.old) }
         ensures stands { OnOk result ((met : List (List ℕ)) → StandsFor self.old met → StandsFor self.new (met ++ packet.old ∷ [])) }
         ensures found { OnOk result ((met : List (List ℕ)) → StandsFor self.old met → self.new.found.at
-            ≡ first_of self.old.found.at at (is_there_after self.old.way self.old.services (met ++ packet.old ∷ []))) }
+            ≡ first_of self.old.found.at at (is_there_after self.old.way self.old.words (met ++ packet.old ∷ []))) }
         ensures not_found { OnErr result (self.new.found ≡ self.old.found) }
         ensures spent { OnErr result (self.new.failed ≡ true) }
         ensures as_it_was { OnErr result (packet.new ≡ packet.old) }
         ensures way { self.new.way ≡ self.old.way }
-        ensures services { self.new.services ≡ self.old.services }
+        ensures words { self.new.words ≡ self.old.words }
         ensures stuffing { self.new.stuffing ≡ self.old.stuffing }
         ensures quiet { (met : List (List ℕ)) → self.old.failed ≡ false → StandsFor self.old met
             → may_be_read self.old.way (pid_of packet.old) met ≡ false → IsOk result }
@@ -127,24 +128,24 @@ impl ServiceSteps {
     /// Processes the next packet, unless memory ran out before. After `AllocError` the packet is as it was.
     #[inline]
     fn advance(&mut self, at: u64, packet: &mut Packet) -> Result<bool, AllocError>
-        ensures made { IfOk result (λ passes. (way : Way) (services : List ℕ) (met : List (List ℕ)) → Served way services self.old met
-            → left_by passes packet.new ≡ made_of way services met packet.old) }
-        ensures stands { OnOk result ((way : Way) (services : List ℕ) (met : List (List ℕ)) → Served way services self.old met
-            → Served way services self.new (met ++ packet.old ∷ [])) }
-        ensures found { OnOk result ((way : Way) (services : List ℕ) (met : List (List ℕ)) → Served way services self.old met
-            → self.new.found.at ≡ first_of self.old.found.at at (is_there_after way services (met ++ packet.old ∷ []))) }
+        ensures made { IfOk result (λ passes. (way : Way) (words : List ServiceWord) (met : List (List ℕ)) → Served way words self.old met
+            → left_by passes packet.new ≡ made_of way words met packet.old) }
+        ensures stands { OnOk result ((way : Way) (words : List ServiceWord) (met : List (List ℕ)) → Served way words self.old met
+            → Served way words self.new (met ++ packet.old ∷ [])) }
+        ensures found { OnOk result ((way : Way) (words : List ServiceWord) (met : List (List ℕ)) → Served way words self.old met
+            → self.new.found.at ≡ first_of self.old.found.at at (is_there_after way words (met ++ packet.old ∷ []))) }
         ensures not_found { OnErr result (self.new.found ≡ self.old.found) }
         ensures as_it_was { OnErr result (packet.new ≡ packet.old) }
         ensures way { self.new.way ≡ self.old.way }
-        ensures services { self.new.services ≡ self.old.services }
+        ensures words { self.new.words ≡ self.old.words }
         ensures stuffing { self.new.stuffing ≡ self.old.stuffing }
         ensures failed { self.new.failed ≡ self.old.failed }
-        ensures quiet { (way : Way) (services : List ℕ) (met : List (List ℕ)) → Served way services self.old met
+        ensures quiet { (way : Way) (words : List ServiceWord) (met : List (List ℕ)) → Served way words self.old met
             → may_be_read way (pid_of packet.old) met ≡ false → IsOk result }
     {
         let (action, came) = self.follower.meet(self.alloc, at, packet)?;
-        let force = &mut self.follower.force;
-        let passes = self.editors.edit(self.alloc, at, action, force, packet)?;
+        let present = &self.follower.present;
+        let passes = self.editors.edit(self.alloc, at, action, present, packet)?;
         note_where(&mut self.found, at, &self.follower, came);
         Ok(passes)
     }
@@ -153,10 +154,10 @@ impl ServiceSteps {
 /// Notes at a position whether one of the services is there, if other tables may be in force.
 #[inline]
 fn note_where(found: &mut FirstFind, at: u64, follower: &ServiceFollower, came: bool)
-    ensures { (way : Way) (services : List ℕ) (before after : List (List ℕ)) → FollowsServices way services follower.now after
-        → (came ≡ false → is_there_after way services after ≡ is_there_after way services before)
-        → IsNoted found.old (is_there_after way services before)
-        → found.new.at ≡ first_of found.old.at at (is_there_after way services after) }
+    ensures { (way : Way) (words : List ServiceWord) (before after : List (List ℕ)) → FollowsServices way words follower.now after
+        → (came ≡ false → is_there_after way words after ≡ is_there_after way words before)
+        → IsNoted found.old (is_there_after way words before)
+        → found.new.at ≡ first_of found.old.at at (is_there_after way words after) }
 {
     if !came {
         return;

@@ -5,9 +5,9 @@ ghost use Rattle.plugin_options.specs.Refusal.{ReadsParsed};
 ghost use Rattle.plug_service.specs.ServiceSettings.{IsValidService};
 ghost use Rattle.plug_service.specs.ServiceWords.{service_options};
 
-use crate::limits::{LAST_SERVICE, MOST_SERVICES};
+use crate::limits::MOST_SERVICES;
 use crate::service_conf::ServiceConf;
-use crate::service_list::ServiceList;
+use named_services::read_services;
 use plugin_options::{ParsedOptions, Refusal, WordsRule};
 use std::alloc::Global;
 
@@ -19,8 +19,7 @@ pub(crate) fn service_settings(alloc: Global, found: &ParsedOptions) -> Result<S
     if !found.has_values("operand") {
         return Err(Refusal::Broken(WordsRule::Missing));
     }
-    let numbers = found.numbers(alloc, "operand", 1, LAST_SERVICE)?;
-    let services = ServiceList::of(alloc, numbers.as_slice())?;
+    let services = read_services(alloc, found.texts("operand"))?;
     if services.len() > MOST_SERVICES {
         return Err(Refusal::Broken(WordsRule::Conflict));
     }

@@ -9,8 +9,8 @@ ghost use Rattle.plug_service.specs.Actions;
 ghost use Rattle.plug_service.specs.Actions.{more_entries};
 ghost use Rattle.plug_service.specs.ServiceEdits;
 
-use crate::service_list::ServiceList;
 use crate::way::Way;
+use named_services::ServiceList;
 use plug_psi::{number_and_pid, pid_of_service};
 use std::alloc::{AllocError, Global};
 use ts_psi::{Pat, PatService};

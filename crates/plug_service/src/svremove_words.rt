@@ -1,6 +1,5 @@
 //! The options of `svremove`, and its settings from their values.
 
-use crate::limits::LAST_SERVICE;
 use crate::service_words::service_settings;
 use crate::svremove_conf::SvremoveConf;
 use plugin_entry::{PluginHelp, PluginSettings};
@@ -40,8 +39,8 @@ impl PluginSettings for SvremoveConf {
 
     fn help() -> PluginHelp {
         PluginHelp {
-            usage: "-P svremove [--everywhere] [--stuffing] N ..",
-            rule: "The PAT and the SDT lose the services, and their PMTs are dropped with those of their PIDs above 31 that no other service has; with --everywhere the guide and the lists of NIT and BATs lose them too; all else passes. It is driven by the tables in force, so it follows a service whose PIDs change under a new version. Up to 62 services may be given, and one that is given twice counts once.",
+            usage: "-P svremove [--everywhere] [--stuffing] S ..",
+            rule: "The PAT and the SDT lose the services, and their PMTs are dropped with those of their PIDs above 31 that no other service has; with --everywhere the guide and the lists of NIT and BATs lose them too; all else passes. It is driven by the tables in force, so it follows a service whose PIDs change under a new version. A service is given by its number, or by its name as info shows it: the first of that name in the SDT in force, at each packet. Up to 62 services may be given, and one that is given twice counts once.",
         }
     }
 

@@ -6,7 +6,6 @@ ghost use Rattle.plug_service.specs.ServiceSettings.{IsValidService};
 ghost use Rattle.plug_service.specs.ZapWords.{zap_options};
 
 use crate::kept_words::read_kept;
-use crate::limits::LAST_SERVICE;
 use crate::service_words::service_settings;
 use crate::zap_conf::ZapConf;
 use plugin_entry::{PluginHelp, PluginSettings};
@@ -46,8 +45,8 @@ impl PluginSettings for ZapConf {
 
     fn help() -> PluginHelp {
         PluginHelp {
-            usage: "-P zap [--keep WORD,..] [--stuffing] N ..",
-            rule: "The PAT and the SDT have the services alone, their PMTs stay, and so do the PIDs of their components, of their PCRs and of their ECMs; all else is dropped, NIT, EIT and TDT too where they are not kept, also before the first PAT and PMT are complete. It is driven by the tables in force, so it follows a service whose PIDs change under a new version. Where the PAT has none of the numbers, an empty PAT and SDT are left. Up to 62 services may be given, and one that is given twice counts once.",
+            usage: "-P zap [--keep WORD,..] [--stuffing] S ..",
+            rule: "The PAT and the SDT have the services alone, their PMTs stay, and so do the PIDs of their components, of their PCRs and of their ECMs; all else is dropped, NIT, EIT and TDT too where they are not kept, also before the first PAT and PMT are complete. It is driven by the tables in force, so it follows a service whose PIDs change under a new version. Where the PAT has none of the services, an empty PAT and SDT are left. A service is given by its number, or by its name as info shows it: the first of that name in the SDT in force, at each packet. Until an SDT has come, a zap with a name carries no PAT and no SDT. Up to 62 services may be given, and one that is given twice counts once.",
         }
     }
 

@@ -1,6 +1,6 @@
 -- From what std parses to the numbers of `specs/Number.antt`.
 use Rattle.std.proofs.Common.{◌≡◌, ◌≢◌, ◌≤◌, ◌^◌, ℕ, Bool, true, false, List, [], ◌∷◌, length, drop, Option, Some, None, Result, Ok, Err, refl, ap, sym, ◌∙◌, subst, cond, arith, nat_lt, nat_eq, get_or, codes, ◌<◌}
-use Rattle.std.specs.Prelude.{IfNone, IfSome, option_and_then}
+use Rattle.std.specs.Prelude.{IfNone, IfSome, is_some, option_and_then, if◌then◌else◌}
 use Rattle.std.proofs.lemmas.Bool.{ne_eqb}
 use Rattle.std.proofs.lemmas.Bool.Decides.{Decides-and, Decides-ltb, nat_tests}
 use Rattle.std.specs.Bool.{Decides}
@@ -88,3 +88,12 @@ if_below least most n low = grind (arith, nat_tests)
 
 pub if_above : (least most n : ℕ) → most < n → if_within least most n ≡ None
 if_above least most n high = grind (arith, nat_tests)
+
+-- ---- digits are a number, however large
+
+some-if : (b : Bool) (n : ℕ) → b ≡ is_some (if b then Some n else None)
+some-if true n = refl
+some-if false n = refl
+
+pub numeral-some : (radix : ℕ) (ds : List ℕ) → is_numeral radix ds ≡ is_some (numeral radix ds)
+numeral-some radix ds = some-if (is_numeral radix ds) (digits_value radix ds)

@@ -11,6 +11,7 @@ pub mod Parts
 pub mod Ranges
 pub mod Refusal
 pub mod RuleText
+pub mod ServiceTexts
 pub mod Signed
 pub mod LabelSet
 pub mod NumberSet

@@ -12,7 +12,8 @@ use Rattle.plugin_options.specs.declared.option_word.OptionWord.TheVariants.{Fla
 use Rattle.plugin_options.specs.declared.sign.Sign.{Sign}
 use Rattle.plugin_options.specs.declared.sign.Sign.TheVariants.{Equals, Slash}
 use Rattle.plugin_options.specs.declared.takes.Takes.{Takes}
-use Rattle.plugin_options.specs.declared.takes.Takes.TheVariants.{Bytes, Choice, Number, Numbered, Pair, Pairs, Part, Ranges, RangesFrom, Signed, Text, Words}
+use Rattle.plugin_options.specs.declared.takes.Takes.TheVariants.{Bytes, Choice, Number, Numbered, Pair, Pairs, Part, Ranges, RangesFrom, Service, Signed, Text, Words}
+use Rattle.plugin_options.specs.ServiceTexts.{is_service}
 use Rattle.plugin_options.specs.WordLists.{are_known}
 
 -- the character between the two numbers of a pair
@@ -33,6 +34,7 @@ form_of (Part what) = part what
 form_of (Numbered sign range what) = numbered (code_of_sign sign) range what
 form_of (Choice names) = known (λ word. list_any (λ name. bytes_eq name.now word) names.now)
 form_of (Words names) = known (are_known (λ word. list_any (λ name. bytes_eq name.now word) names.now))
+form_of Service = known is_service
 form_of Text = text
 
 -- the row of an option

@@ -22,6 +22,7 @@ mod pid_set;
 mod ranges;
 mod refusal;
 mod segment_help;
+mod service_texts;
 mod sign;
 mod signed;
 mod signs;
@@ -33,8 +34,8 @@ pub use commands::{command_with, new_command, with_value};
 pub use hex_text::read_bytes;
 pub use label_list::LabelList;
 pub use limits::{
-    LAST_LABEL, LAST_OFFSET, LAST_PID, MOST_BYTES, MOST_NUMBER, MOST_PACKETS, MOST_PAIRS,
-    MOST_WINDOW,
+    LAST_LABEL, LAST_OFFSET, LAST_PID, LAST_SERVICE, MOST_BYTES, MOST_NUMBER, MOST_PACKETS,
+    MOST_PAIRS, MOST_WINDOW,
 };
 pub use number::read_number_within;
 pub use number_set::NumberSet;
@@ -51,6 +52,7 @@ pub use pid_set::PidSet;
 pub use ranges::read_ranges;
 pub use refusal::Refusal;
 pub use segment_help::SegmentHelp;
+pub use service_texts::{is_number, is_service};
 pub use sign::Sign;
 pub use signed::read_signed_within;
 pub use signs::split_at_sign;

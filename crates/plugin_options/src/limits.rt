@@ -24,3 +24,6 @@ pub const MOST_PAIRS: usize = 1000;
 
 /// The greatest number of bytes of a value that has no other limit: 2^60, which no word has.
 pub const MOST_BYTES: usize = 1 << 60;
+
+/// The greatest number of a service (ISO/IEC 13818-1, 2.4.4.5).
+pub const LAST_SERVICE: u64 = 65535;

@@ -307,6 +307,16 @@ impl<'a> ParsedOptions<'a> {
         }
     }
 
+    /// The operands, of which there may be any number, as texts.
+    pub fn texts(&self, name: &str) -> &[&'a str]
+        ensures { map (λ text. text.now) result.now ≡ values_of name.now self.now }
+    {
+        match self.values(name) {
+            Some(texts) => texts,
+            None => &[],
+        }
+    }
+
     /// The operands, of which there may be any number; `None` where there is none.
     fn values(&self, name: &str) -> Option<&[&'a str]>
         ensures { unwrap_or (option_map (λ texts. map (λ text. text.now) texts.now) result) [] ≡ values_of name.now self.now }

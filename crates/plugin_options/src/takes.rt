@@ -27,6 +27,8 @@ pub enum Takes {
     Choice(&'static [&'static str]),
     /// Some of these words, joined by commas.
     Words(&'static [&'static str]),
+    /// A service: a number from 1 to 65535, or a name.
+    Service,
     /// Any text.
     Text,
 }

@@ -5,10 +5,7 @@ ghost use Rattle.plugin_settings.specs.Plugins.{is_silent, rule_of, preallocated
 
 use cell_rows::Mark;
 use plug_analyze::Analyze;
-use plug_edit::{
-    EditCat, EditNit, EditPat, EditPmt, EditSdt, new_edit_cat, new_edit_nit, new_edit_pat,
-    new_edit_pmt, new_edit_sdt,
-};
+use plug_edit::{EditCat, EditNit, EditPat, EditPmt, EditSdt, new_edit_cat, new_edit_nit, new_edit_pat, new_edit_pmt, new_edit_sdt};
 use plug_eit::{Eit, new_eit};
 use plug_end::Until;
 use plug_info::Info;

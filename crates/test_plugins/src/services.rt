@@ -1,11 +1,12 @@
 //! Tests of `zap` and `svremove`: what is left of the generated stream, which has service 1 with PIDs 256 and 257 and
 //! service 2 with PIDs 256, 258 and 259.
 
-ghost use Rattle.std.specs.Prelude.{[], IfOk};
+ghost use Rattle.std.specs.Prelude.{◌≡◌, [], IfOk, length};
 
 use crate::cells::{bytes_from, given, live};
 use crate::compared::{holds, same};
-use plug_service::{Kept, ServiceConf, ServiceList, SvremoveConf, ZapConf, new_svremove, new_zap};
+use named_services::{ServiceWord, ServiceWords};
+use plug_service::{Kept, ServiceConf, SvremoveConf, ZapConf, new_svremove, new_zap};
 use plugin_trait::Plugin;
 use std::alloc::{AllocError, Global};
 use std::process::Abort;
@@ -66,11 +67,20 @@ fn begins(rt: &impl Abort, cells: &[Cell], wanted: &[u8]) {
     holds(rt, first_bytes(cells).starts_with(wanted));
 }
 
+/// The word that is the number 1.
+fn service_1(alloc: Global) -> Result<ServiceWords, AllocError>
+    ensures { IfOk result (λ words. length words ≡ 1) }
+{
+    let mut words = ServiceWords::none(alloc);
+    words.add(ServiceWord::Number(1))?;
+    Ok(words)
+}
+
 /// What is left where service 1 is kept.
 fn kept(alloc: Global) -> Result<Vec<Cell>, Fail> {
     let conf = ZapConf {
         service: ServiceConf {
-            services: ServiceList::of(alloc, &[1])?,
+            services: service_1(alloc)?,
             stuffing: false,
         },
         kept: Kept {
@@ -100,7 +110,7 @@ fn is_kept(rt: &impl Abort, cells: &[Cell]) {
 /// What is left where service 1 is taken out.
 fn without_it(alloc: Global) -> Result<Vec<Cell>, Fail> {
     let service = ServiceConf {
-        services: ServiceList::of(alloc, &[1])?,
+        services: service_1(alloc)?,
         stuffing: true,
     };
     let conf = SvremoveConf {

@@ -5,7 +5,7 @@ use Rattle.std.specs.Option.{option_copied}
 use Rattle.ts_psi.specs.PsiTables.{component_item, pmt_held}
 use Rattle.plug_info_texts.specs.InfoJson.{after_comma}
 use Rattle.plug_info.specs.InfoRule.{component_object}
-use Rattle.plug_info_state.specs.SdtInForce.{items_in}
+use Rattle.named_services.specs.SdtInForce.{items_in}
 use Rattle.plug_info.proofs.JsonLemmas.{flat_map_map}
 use Rattle.plug_info.proofs.json.components_json.Goals as goal
 

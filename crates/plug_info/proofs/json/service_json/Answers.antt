@@ -2,7 +2,7 @@ use Rattle.std.proofs.Common.{map, ap, ap₂, ◌∙◌}
 use Rattle.ts_packet.specs.Cells.{live_packets}
 use Rattle.plug_info_texts.specs.InfoJson.{array, portion_json, service_head}
 use Rattle.plug_info.specs.InfoRule.{component_object, pcr_pid_in, service_packets}
-use Rattle.plug_info_state.specs.SdtInForce.{items_in, service_body}
+use Rattle.named_services.specs.SdtInForce.{items_in, service_body}
 use Rattle.plug_info.proofs.JsonLemmas.{service_tail_is}
 use Rattle.plug_info.proofs.LineLemmas.{three_parts}
 use Rattle.plug_info.proofs.json.service_json.Goals as goal

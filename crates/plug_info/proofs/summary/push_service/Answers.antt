@@ -4,7 +4,7 @@ use Rattle.ts_packet.specs.Cells.{live_packets}
 use Rattle.ts_psi.specs.PsiTables.{component_item}
 use Rattle.plug_psi.specs.InForce.{pmt_of}
 use Rattle.plug_info.specs.InfoRule.{component_line, service_line}
-use Rattle.plug_info_state.specs.SdtInForce.{items_in}
+use Rattle.named_services.specs.SdtInForce.{items_in}
 use Rattle.plug_info.proofs.LineLemmas.{map_map, pushed_after}
 use Rattle.plug_info.proofs.summary.push_service.Goals as goal
 

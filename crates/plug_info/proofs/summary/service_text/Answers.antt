@@ -1,7 +1,7 @@
 use Rattle.std.proofs.Common.{ap, ap₂, ◌∙◌}
 use Rattle.plug_info.specs.InfoRule.{pcr_pid_in, service_packets}
 use Rattle.plug_info_texts.specs.InfoTexts.{portion_text, service_head, service_tail}
-use Rattle.plug_info_state.specs.SdtInForce.{service_body}
+use Rattle.named_services.specs.SdtInForce.{service_body}
 use Rattle.ts_packet.specs.Cells.{live_packets}
 use Rattle.plug_info.proofs.LineLemmas.{three_parts}
 use Rattle.plug_info.proofs.summary.service_text.Goals as goal

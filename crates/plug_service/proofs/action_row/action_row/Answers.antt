@@ -13,18 +13,18 @@ returns-clause-editable c = λ pid below is.
 
 pub returns-clause-stands : goal.returns-clause-stands
 returns-clause-stands c = λ fed f pid below.
-    let services = c.args.services.now in
+    let services = c.args.present.now.services in
     let pat = pat_of fed in
-    let told : get_or c.in_ok-row.row pid Drop ≡ action_by c.args.way (get_or c.in_ok-of_pmts.of_pmts pid false)
+    let told : get_or c.in_ok-row.row pid Drop ≡ action_by c.args.present.now.way (get_or c.in_ok-of_pmts.of_pmts pid false)
     (get_or c.in_ok-shared-2.shared pid false) (get_or c.in_ok-flags.flags pid false) pid =
     (let call = c.in_ok-row.ensures pid Drop below in search rules) in
     let firsts = c.in_ok-firsts.ensures ∙ ap₂ pmt_pids c.as_slice-2.ensures (c.pat.ensures fed f) in
     let shared = c.in_ok-shared.ensures ∙ ap₂ (λ l p. filter (more_entries l p) l) (c.deref.ensures.value ∙ firsts) (c.pat-2.ensures fed f) in
     let of_pmt = c.in_ok-of_pmts.ensures pid below ∙ told-all c.deref-4.result.now (pmt_pids services pat) (c.deref-4.ensures.value ∙ firsts) pid in
     let is_shared = c.in_ok-shared-2.ensures pid below ∙ told-all c.deref-5.result.now (shared_pids services pat) (c.deref-5.ensures.value ∙ shared) pid in
-    let flag = c.in_ok-flags.ensures pid below ∙ told-by c.args.way services pat (λ other. pmt_of other fed) c.deref-2.result.now c.deref-3.result.now
+    let flag = c.in_ok-flags.ensures pid below ∙ told-by c.args.present.now.way services pat (λ other. pmt_of other fed) c.deref-2.result.now c.deref-3.result.now
     (c.deref-2.ensures.value ∙ (c.in_ok-own.ensures fed f ∙ ap (λ l. own_pids l (λ other. pmt_of other fed)) c.as_slice.ensures))
     (c.deref-3.ensures.value ∙ c.in_ok-others.ensures fed f) pid in
     told
-    ∙ (ap₂ (λ a s. action_by c.args.way a s (get_or c.in_ok-flags.flags pid false) pid) of_pmt is_shared
-    ∙ ap (λ b. action_by c.args.way (has_pid (pmt_pids services pat) pid) (has_pid (shared_pids services pat) pid) b pid) flag)
+    ∙ (ap₂ (λ a s. action_by c.args.present.now.way a s (get_or c.in_ok-flags.flags pid false) pid) of_pmt is_shared
+    ∙ ap (λ b. action_by c.args.present.now.way (has_pid (pmt_pids services pat) pid) (has_pid (shared_pids services pat) pid) b pid) flag)

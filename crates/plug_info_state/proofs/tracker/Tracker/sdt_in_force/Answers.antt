@@ -1,6 +1,6 @@
 use Rattle.std.proofs.Common.{◌∙◌}
 use Rattle.ts_packet.specs.Cells.{live_packets}
-use Rattle.plug_info_state.proofs.SdtLemmas.{in-force}
+use Rattle.named_services.proofs.SdtLemmas.{in-force}
 use Rattle.plug_info_state.proofs.tracker.Tracker.sdt_in_force.Goals as goal
 
 pub returns : goal.returns

@@ -3,4 +3,4 @@ use Rattle.plug_service.specs.declared.action.Action.TheVariants.{Drop}
 use Rattle.plug_service.proofs.pid_actions.PidActions.action.Goals as goal
 
 pub returns-clause-tells : goal.returns-clause-tells
-returns-clause-tells c = λ pat pmts h. c.get.ensures Drop ∙ h c.args.pid c.requires
+returns-clause-tells c = λ present pat pmts h. c.get.ensures Drop ∙ h c.args.pid c.requires

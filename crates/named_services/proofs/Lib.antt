@@ -1,0 +1,5 @@
+-- The lemmas of `named_services`.
+pub mod NameLemmas
+pub mod SdtLemmas
+pub mod WordLemmas
+mod Rows

@@ -1,6 +1,0 @@
-use Rattle.std.proofs.Common.{◌∙◌}
-use Rattle.plug_info_state.proofs.SdtLemmas.{chosen-is}
-use Rattle.plug_info_state.proofs.sdt_in_force.SdtInForce.in_force.Goals as goal
-
-pub returns : goal.returns
-returns c = λ fed w. c.chosen.ensures ∙ chosen-is c.args.self.now fed c.args.stream_id w

@@ -1,5 +1,0 @@
-use Rattle.plug_info_state.proofs.SdtLemmas.{sdt-new}
-use Rattle.plug_info_state.proofs.sdt_in_force.SdtInForce.new.Goals as goal
-
-pub returns : goal.returns
-returns c = sdt-new _ c.in_ok-tables.ensures c.new-2.ensures.each c.new-2.ensures.last c.new-3.ensures

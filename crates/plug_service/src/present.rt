@@ -1,0 +1,54 @@
+//! What is in force at a packet, as far as edits of tables go by it.
+
+ghost use Rattle.std.specs.Prelude.{◌≡◌, IfOk, true};
+ghost use Rattle.plug_service.specs.Present.{hides};
+
+use crate::way::Way;
+use named_services::ServiceList;
+use std::alloc::{AllocError, Global};
+
+/// What is in force at a packet, as far as edits of tables go by it.
+#[derive(Drop)]
+pub(crate) struct Present {
+    pub(crate) way: Way,
+    /// The services that are kept or removed.
+    pub(crate) services: ServiceList,
+    /// Whether a service is named, and no SDT is in force.
+    pub(crate) unknown: bool,
+    /// The transport_stream_id of the PAT in force, if there is one.
+    pub(crate) stream: Option<u16>,
+}
+
+impl Present {
+    /// Whether both are the same.
+    pub(crate) fn is_same(&self, other: &Present) -> bool
+        ensures { result ≡ true → self.now ≡ other.now }
+    {
+        self.way == other.way
+            && self.unknown == other.unknown
+            && self.stream == other.stream
+            && self.services.as_slice() == other.services.as_slice()
+    }
+
+    /// The same in memory of its own.
+    pub(crate) fn copy(&self, alloc: Global) -> Result<Present, AllocError>
+        ensures { IfOk result (λ present. present ≡ self.now) }
+    {
+        Ok(Present {
+            way: self.way,
+            services: self.services.copy(alloc)?,
+            unknown: self.unknown,
+            stream: self.stream,
+        })
+    }
+
+    /// Whether no PAT, and no table on PID 17, is carried.
+    pub(crate) fn hides(&self) -> bool
+        ensures { result ≡ hides self.now.way self.now.unknown }
+    {
+        match self.way {
+            Way::Keep(_) => self.unknown,
+            Way::Remove { .. } => false,
+        }
+    }
+}

@@ -1,0 +1,2 @@
+-- The lemmas of `varied_edits`.
+pub mod PidsVary

@@ -1,0 +1,3 @@
+-- The definitions of edits that go by what is in force.
+pub mod VariedPids
+pub mod VariedStands
