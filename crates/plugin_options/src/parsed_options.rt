@@ -311,10 +311,7 @@ impl<'a> ParsedOptions<'a> {
     pub fn texts(&self, name: &str) -> &[&'a str]
         ensures { map (λ text. text.now) result.now ≡ values_of name.now self.now }
     {
-        match self.values(name) {
-            Some(texts) => texts,
-            None => &[],
-        }
+        self.values(name).unwrap_or_default()
     }
 
     /// The operands, of which there may be any number; `None` where there is none.
