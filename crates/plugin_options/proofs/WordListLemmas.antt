@@ -1,5 +1,5 @@
 -- Words that are joined by commas, cut at the first comma.
-use Rattle.std.proofs.Common.{◌≡◌, ◌<◌, ◌&&◌, ◌||◌, ◌∷◌, ◌∙◌, ℕ, Bool, List, [], length, true, false, refl, ap, sym}
+use Rattle.std.proofs.Common.{◌≡◌, ◌<◌, ◌&&◌, ◌||◌, ◌∷◌, ◌∙◌, ℕ, Bool, List, length, true, false, refl, ap, sym}
 use Rattle.std.specs.List.{after_first, before_first, list_all, list_any, position_or_len, slice_split}
 use Rattle.std.specs.Str.{bytes_eq}
 use Rattle.std.proofs.lemmas.List.Splits.{slice_split_first}
