@@ -26,11 +26,11 @@ use crate::cat_lines::systems_json;
 use crate::network_names::names_json;
 use crate::pid_uses::PidUses;
 use crate::service_status::{program_descriptors, service_status};
-use named_services::service_body;
 use crate::summary::{
     numbers_shown, pcr_pid_in, sdt_stream_id, service_packets, stream_numbers, uses_of,
 };
 use crate::users::{components_of, services_of, users_of};
+use named_services::service_body;
 use plug_info_state::Tracker;
 use plug_info_texts::json_texts::{
     component_head, component_tail, service_head, service_tail, stream_json,

@@ -28,8 +28,8 @@ use crate::cat_lines::push_systems;
 use crate::network_names::push_names;
 use crate::pid_uses::PidUses;
 use crate::service_status::{program_descriptors, service_status};
-use named_services::service_body;
 use crate::users::{components_of, has_component, services_of, users_of};
+use named_services::service_body;
 use plug_info_state::Tracker;
 use plug_info_texts::line_texts::{
     component_head, component_tail, service_head, service_tail, stream_text,

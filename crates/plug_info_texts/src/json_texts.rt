@@ -10,9 +10,9 @@ use crate::name_row::{service_type_name, stream_type_name};
 use crate::pid_numbers::PidNumbers;
 use crate::portions::bytes_of;
 use crate::scene::Scene;
-use named_services::{name_in, provider_in, type_in};
 use crate::shown::widened;
 use crate::stream_numbers::StreamNumbers;
+use named_services::{name_in, provider_in, type_in};
 use std::alloc::{AllocError, Global};
 
 /// The object of the stream.

@@ -8,9 +8,9 @@ use crate::name_row::{service_type_name, stream_type_name};
 use crate::pid_numbers::PidNumbers;
 use crate::portions::{bytes_of, percent, portion_text, rate_text, troubles_text};
 use crate::scene::Scene;
-use named_services::{name_in, provider_in, type_in};
 use crate::shown::{number_or_none, shown_or_none, widened};
 use crate::stream_numbers::StreamNumbers;
+use named_services::{name_in, provider_in, type_in};
 use plugin_trait::LineText;
 use std::alloc::{AllocError, Global};
 

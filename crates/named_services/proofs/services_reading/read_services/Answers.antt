@@ -26,7 +26,7 @@ loop-text-preserved c = record {
 
 pub returns : goal.returns
 returns c =
-    let none = drop_all c.args.texts.now c.loop-text.text-index c.loop-text-test.false in (
+    let none = drop_all c.loop-text.text-index c.args.texts.now c.loop-text-test.false in (
       sym (all-services (map (λ text. text.now) c.args.texts.now))
           ∙ c.loop-text.invariant.formed
           ∙ ap (λ texts. list_all (λ text. is_some (word_of text)) (map (λ text. text.now) texts)) none,
