@@ -1,7 +1,7 @@
 //! A plugin of the chain, of any kind and with its labels.
 //!
-//! A plugin of a chain is four types, one in the other. `SomePlugin` is one of the plugins that there are: its methods
-//! ask which one it is, and their proofs are by cases. `MaybeEvery` gives the summary of any plugin so far too, where that
+//! A plugin of a chain is five types, one in the other. `SomePlugin` is one of the plugins that there are, in one of three
+//! sets: the methods of both ask which one it is, and their proofs are by cases. `MaybeEvery` gives the summary of any plugin so far too, where that
 //! is asked for, and `MaskedPlugin` shows any plugin only the cells that it is to see; so what is counted is what the plugin
 //! sees. Both are proved once, from the clauses of `Plugin`. `AnyPlugin` is the type that the layers above name: it has no
 //! parameter, its constructor says which rule an item means, and it gives a plugin that sees every packet the whole
@@ -12,11 +12,11 @@ ghost use Rattle.std.specs.Prelude.{◌≡◌, IfOk, []};
 ghost use Rattle.plugin_settings.specs.Items.{is_silent_item, preallocated_of_item, rule_of_item};
 
 use crate::idle::{Idle, why_idle};
-use crate::masked_plugin::MaskedPlugin;
 use crate::sees_tables::{SeesTables, add_changes};
 use crate::some_plugin::SomePlugin;
 use cell_rows::Mark;
 use plug_every::MaybeEvery;
+use plug_masked::MaskedPlugin;
 use plug_psi::Changes;
 use plugin_settings::PluginItem;
 use plugin_trait::{Applied, Line, Outcome, Plugin};
@@ -75,7 +75,7 @@ impl SeesTables for AnyPlugin {
 impl Plugin for AnyPlugin {
     ghost use Rattle.plugin_set.specs.contracts.some_plugin.SomePluginPlugin.TheImpl.Laws.{lawful as some_laws};
     ghost use Rattle.plug_every.specs.EveryStands.{opens_maybe};
-    ghost use Rattle.plugin_settings.specs.OnlyLabels.{shown, starts_open_for};
+    ghost use Rattle.plug_masked.specs.OnlyLabels.{shown, starts_open_for};
 
     ghost rule = { λ s. ⟦<MaskedPlugin<MaybeEvery<SomePlugin>> as Plugin>⟧.rule s.masked };
 

@@ -7,6 +7,9 @@ use plug_move::Remap;
 use plug_psi::Unedited;
 use plug_tables::Tables;
 use plug_time::Time;
+use set_packets::PacketsPlugin;
+use set_reports::ReportsPlugin;
+use set_tables::TablesPlugin;
 use std::alloc::AllocError;
 
 /// Why a plugin edited, inserted or read nothing. It explains a run, and no rule rests on it.
@@ -31,20 +34,39 @@ pub enum Idle {
 /// Why a plugin was idle; `None` where it was not, or where it edits nothing in any case.
 pub(crate) fn why_idle(plugin: &SomePlugin) -> Result<Option<Idle>, AllocError> {
     match plugin {
-        SomePlugin::Pat(plugin) => idle_editor(plugin.steps.unedited()),
-        SomePlugin::Cat(plugin) => idle_editor(plugin.steps.unedited()),
-        SomePlugin::Pmt(plugin) => idle_editor(plugin.steps.unedited()),
-        SomePlugin::Sdt(plugin) => idle_editor(plugin.steps.unedited()),
-        SomePlugin::Nit(plugin) => idle_editor(plugin.steps.unedited()),
-        SomePlugin::Zap(plugin) => idle_editor(Ok(plugin.steps.unedited())),
-        SomePlugin::Svremove(plugin) => idle_editor(Ok(plugin.steps.unedited())),
-        SomePlugin::Svrename(plugin) => idle_editor(Ok(plugin.steps.unedited())),
-        SomePlugin::Remap(plugin) => Ok(idle_remap(plugin)),
-        SomePlugin::Inject(plugin) => Ok(idle_inject(plugin)),
-        SomePlugin::Tables(plugin) => Ok(idle_tables(plugin)),
-        SomePlugin::Time(plugin) => Ok(idle_time(plugin)),
-        SomePlugin::Eit(plugin) => Ok(idle_eit(plugin)),
-        _ => Ok(None),
+        SomePlugin::Packets(plugin) => Ok(idle_of_packets(plugin)),
+        SomePlugin::Tables(plugin) => idle_of_tables(plugin),
+        SomePlugin::Reports(plugin) => Ok(idle_of_reports(plugin)),
+    }
+}
+
+fn idle_of_packets(plugin: &PacketsPlugin) -> Option<Idle> {
+    match plugin {
+        PacketsPlugin::Remap(plugin) => idle_remap(plugin),
+        PacketsPlugin::Inject(plugin) => idle_inject(plugin),
+        _ => None,
+    }
+}
+
+fn idle_of_tables(plugin: &TablesPlugin) -> Result<Option<Idle>, AllocError> {
+    match plugin {
+        TablesPlugin::Pat(plugin) => idle_editor(plugin.steps.unedited()),
+        TablesPlugin::Cat(plugin) => idle_editor(plugin.steps.unedited()),
+        TablesPlugin::Pmt(plugin) => idle_editor(plugin.steps.unedited()),
+        TablesPlugin::Sdt(plugin) => idle_editor(plugin.steps.unedited()),
+        TablesPlugin::Nit(plugin) => idle_editor(plugin.steps.unedited()),
+        TablesPlugin::Zap(plugin) => idle_editor(Ok(plugin.steps.unedited())),
+        TablesPlugin::Svremove(plugin) => idle_editor(Ok(plugin.steps.unedited())),
+        TablesPlugin::Svrename(plugin) => idle_editor(Ok(plugin.steps.unedited())),
+        TablesPlugin::Time(plugin) => Ok(idle_time(plugin)),
+        TablesPlugin::Eit(plugin) => Ok(idle_eit(plugin)),
+    }
+}
+
+fn idle_of_reports(plugin: &ReportsPlugin) -> Option<Idle> {
+    match plugin {
+        ReportsPlugin::Tables(plugin) => idle_tables(plugin),
+        _ => None,
     }
 }
 

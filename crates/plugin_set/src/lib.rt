@@ -4,7 +4,6 @@
 
 mod any_plugin;
 mod idle;
-mod masked_plugin;
 mod sees_tables;
 mod some_plugin;
 

@@ -5,106 +5,58 @@ ghost use Rattle.plugin_settings.specs.Plugins.{is_silent, rule_of, preallocated
 
 use cell_rows::Mark;
 use plug_analyze::Analyze;
-use plug_edit::{EditCat, EditNit, EditPat, EditPmt, EditSdt, new_edit_cat, new_edit_nit, new_edit_pat, new_edit_pmt, new_edit_sdt};
-use plug_eit::{Eit, new_eit};
+use plug_edit::{new_edit_cat, new_edit_nit, new_edit_pat, new_edit_pmt, new_edit_sdt};
+use plug_eit::new_eit;
 use plug_end::Until;
 use plug_info::Info;
-use plug_inject::{Inject, new_inject};
+use plug_inject::new_inject;
 use plug_monitor::Monitor;
-use plug_move::{Remap, new_remap};
-use plug_pass::{Filter, Pattern, Skip, Slice, new_filter, new_pattern, new_skip, new_slice};
+use plug_move::new_remap;
+use plug_pass::{new_filter, new_pattern, new_skip, new_slice};
 use plug_pcr::Pcrverify;
 use plug_rate::Rate;
-use plug_rename::{Rename, new_rename};
-use plug_restuff::{Restuff, new_restuff};
-use plug_service::{Svremove, Zap, new_svremove, new_zap};
+use plug_rename::new_rename;
+use plug_restuff::new_restuff;
+use plug_service::{new_svremove, new_zap};
 use plug_tables::Tables;
-use plug_time::{Time, new_time};
+use plug_time::new_time;
 use plug_times::Timestamps;
 use plug_watch::{Continuity, Count};
-use plug_window::{Compact, Rmorphan, new_compact, new_rmorphan};
+use plug_window::{new_compact, new_rmorphan};
+use set_packets::PacketsPlugin;
+use set_reports::ReportsPlugin;
+use set_tables::TablesPlugin;
 use plugin_settings::PluginConf;
 use plugin_trait::{Applied, Line, Outcome, Plugin};
 use std::alloc::{AllocError, Global};
 use ts_packet::{Labels, Packet};
 use ts_section::Section;
 
-/// A plugin of any kind, to which each cell is shown.
+/// A plugin of any kind, to which each cell is shown, in the set that it is of: a proof by cases of many plugins takes more than
+/// several of few.
 #[derive(Drop)]
 pub(crate) enum SomePlugin {
-    Filter(Filter),
-    Skip(Skip),
-    Slice(Slice),
-    Pattern(Pattern),
-    Until(Until),
-    Count(Count),
-    Continuity(Continuity),
-    Remap(Remap),
-    Inject(Inject),
-    Pat(EditPat),
-    Cat(EditCat),
-    Pmt(EditPmt),
-    Sdt(EditSdt),
-    Nit(EditNit),
-    Time(Time),
-    Eit(Eit),
-    Zap(Zap),
-    Svremove(Svremove),
-    Svrename(Rename),
-    Analyze(Analyze),
-    Info(Info),
-    Tables(Tables),
-    Compact(Compact),
-    Rmorphan(Rmorphan),
-    Pcrverify(Pcrverify),
-    Timestamps(Timestamps),
-    Rate(Rate),
-    Monitor(Monitor),
-    Restuff(Restuff),
+    Packets(PacketsPlugin),
+    Reports(ReportsPlugin),
+    Tables(TablesPlugin),
 }
 
 // The same expression for the plugin of each variant.
 macro_rules! each_plugin {
     ($some:expr, $plugin:ident => $does:expr) => {
         match $some {
-            SomePlugin::Filter($plugin) => $does,
-            SomePlugin::Skip($plugin) => $does,
-            SomePlugin::Slice($plugin) => $does,
-            SomePlugin::Pattern($plugin) => $does,
-            SomePlugin::Until($plugin) => $does,
-            SomePlugin::Count($plugin) => $does,
-            SomePlugin::Continuity($plugin) => $does,
-            SomePlugin::Remap($plugin) => $does,
-            SomePlugin::Inject($plugin) => $does,
-            SomePlugin::Pat($plugin) => $does,
-            SomePlugin::Cat($plugin) => $does,
-            SomePlugin::Pmt($plugin) => $does,
-            SomePlugin::Sdt($plugin) => $does,
-            SomePlugin::Nit($plugin) => $does,
-            SomePlugin::Time($plugin) => $does,
-            SomePlugin::Eit($plugin) => $does,
-            SomePlugin::Zap($plugin) => $does,
-            SomePlugin::Svremove($plugin) => $does,
-            SomePlugin::Svrename($plugin) => $does,
-            SomePlugin::Analyze($plugin) => $does,
-            SomePlugin::Info($plugin) => $does,
+            SomePlugin::Packets($plugin) => $does,
+            SomePlugin::Reports($plugin) => $does,
             SomePlugin::Tables($plugin) => $does,
-            SomePlugin::Compact($plugin) => $does,
-            SomePlugin::Rmorphan($plugin) => $does,
-            SomePlugin::Pcrverify($plugin) => $does,
-            SomePlugin::Timestamps($plugin) => $does,
-            SomePlugin::Rate($plugin) => $does,
-            SomePlugin::Monitor($plugin) => $does,
-            SomePlugin::Restuff($plugin) => $does,
         }
     };
 }
 
 // A plugin of one kind, where there is one, as a plugin of any kind.
 macro_rules! made {
-    ($new:expr, $variant:path) => {
+    ($new:expr, $variant:path, $set:path) => {
         match $new {
-            Ok(plugin) => Ok($variant(plugin)),
+            Ok(plugin) => Ok($set($variant(plugin))),
             Err(error) => Err(error),
         }
     };
@@ -114,35 +66,35 @@ macro_rules! made {
 macro_rules! made_of {
     ($settings:expr, $alloc:expr, $sections:expr, $buffer:expr) => {
         match $settings {
-            PluginConf::Filter(conf) => made!(new_filter($alloc,conf,$buffer), SomePlugin::Filter),
-            PluginConf::Skip(conf) => made!(new_skip($alloc,conf,$buffer), SomePlugin::Skip),
-            PluginConf::Slice(conf) => made!(new_slice($alloc,conf,$buffer), SomePlugin::Slice),
-            PluginConf::Pattern(conf) => made!(new_pattern($alloc,conf,$buffer), SomePlugin::Pattern),
-            PluginConf::Until(conf) => made!(Until::new($alloc,conf,$buffer), SomePlugin::Until),
-            PluginConf::Count(conf) => made!(Count::new($alloc,conf,$buffer), SomePlugin::Count),
-            PluginConf::Continuity(conf) => made!(Continuity::new($alloc,&conf.counters,$buffer), SomePlugin::Continuity),
-            PluginConf::Remap(conf) => made!(new_remap($alloc,conf,$buffer), SomePlugin::Remap),
-            PluginConf::Inject(conf) => made!(new_inject($alloc,conf,$sections), SomePlugin::Inject),
-            PluginConf::Pat(conf) => made!(new_edit_pat($alloc,conf,$buffer), SomePlugin::Pat),
-            PluginConf::Cat(conf) => made!(new_edit_cat($alloc,conf,$buffer), SomePlugin::Cat),
-            PluginConf::Pmt(conf) => made!(new_edit_pmt($alloc,conf,$buffer), SomePlugin::Pmt),
-            PluginConf::Sdt(conf) => made!(new_edit_sdt($alloc,conf,$buffer), SomePlugin::Sdt),
-            PluginConf::Nit(conf) => made!(new_edit_nit($alloc,conf,$buffer), SomePlugin::Nit),
-            PluginConf::Time(conf) => made!(new_time($alloc,conf,$buffer), SomePlugin::Time),
-            PluginConf::Eit(conf) => made!(new_eit($alloc,conf,$buffer), SomePlugin::Eit),
-            PluginConf::Zap(conf) => made!(new_zap($alloc,conf,$buffer), SomePlugin::Zap),
-            PluginConf::Svremove(conf) => made!(new_svremove($alloc,conf,$buffer), SomePlugin::Svremove),
-            PluginConf::Svrename(conf) => made!(new_rename($alloc,conf,$buffer), SomePlugin::Svrename),
-            PluginConf::Analyze(conf) => made!(Analyze::new($alloc,conf,$buffer), SomePlugin::Analyze),
-            PluginConf::Info(conf) => made!(Info::new($alloc,conf,$buffer), SomePlugin::Info),
-            PluginConf::Tables(conf) => made!(Tables::new($alloc,conf,$buffer), SomePlugin::Tables),
-            PluginConf::Compact(conf) => made!(new_compact($alloc,&conf.window,$buffer), SomePlugin::Compact),
-            PluginConf::Rmorphan(conf) => made!(new_rmorphan($alloc,&conf.window), SomePlugin::Rmorphan),
-            PluginConf::Pcrverify(conf) => made!(Pcrverify::new($alloc,conf,$buffer), SomePlugin::Pcrverify),
-            PluginConf::Timestamps(conf) => made!(Timestamps::new($alloc,conf,$buffer), SomePlugin::Timestamps),
-            PluginConf::Rate(conf) => made!(Rate::new($alloc,conf,$buffer), SomePlugin::Rate),
-            PluginConf::Monitor(conf) => made!(Monitor::new($alloc,conf,$buffer), SomePlugin::Monitor),
-            PluginConf::Restuff(conf) => made!(new_restuff($alloc,conf,$buffer), SomePlugin::Restuff),
+            PluginConf::Filter(conf) => made!(new_filter($alloc,conf,$buffer), PacketsPlugin::Filter, SomePlugin::Packets),
+            PluginConf::Skip(conf) => made!(new_skip($alloc,conf,$buffer), PacketsPlugin::Skip, SomePlugin::Packets),
+            PluginConf::Slice(conf) => made!(new_slice($alloc,conf,$buffer), PacketsPlugin::Slice, SomePlugin::Packets),
+            PluginConf::Pattern(conf) => made!(new_pattern($alloc,conf,$buffer), PacketsPlugin::Pattern, SomePlugin::Packets),
+            PluginConf::Until(conf) => made!(Until::new($alloc,conf,$buffer), PacketsPlugin::Until, SomePlugin::Packets),
+            PluginConf::Count(conf) => made!(Count::new($alloc,conf,$buffer), ReportsPlugin::Count, SomePlugin::Reports),
+            PluginConf::Continuity(conf) => made!(Continuity::new($alloc,&conf.counters,$buffer), ReportsPlugin::Continuity, SomePlugin::Reports),
+            PluginConf::Remap(conf) => made!(new_remap($alloc,conf,$buffer), PacketsPlugin::Remap, SomePlugin::Packets),
+            PluginConf::Inject(conf) => made!(new_inject($alloc,conf,$sections), PacketsPlugin::Inject, SomePlugin::Packets),
+            PluginConf::Pat(conf) => made!(new_edit_pat($alloc,conf,$buffer), TablesPlugin::Pat, SomePlugin::Tables),
+            PluginConf::Cat(conf) => made!(new_edit_cat($alloc,conf,$buffer), TablesPlugin::Cat, SomePlugin::Tables),
+            PluginConf::Pmt(conf) => made!(new_edit_pmt($alloc,conf,$buffer), TablesPlugin::Pmt, SomePlugin::Tables),
+            PluginConf::Sdt(conf) => made!(new_edit_sdt($alloc,conf,$buffer), TablesPlugin::Sdt, SomePlugin::Tables),
+            PluginConf::Nit(conf) => made!(new_edit_nit($alloc,conf,$buffer), TablesPlugin::Nit, SomePlugin::Tables),
+            PluginConf::Time(conf) => made!(new_time($alloc,conf,$buffer), TablesPlugin::Time, SomePlugin::Tables),
+            PluginConf::Eit(conf) => made!(new_eit($alloc,conf,$buffer), TablesPlugin::Eit, SomePlugin::Tables),
+            PluginConf::Zap(conf) => made!(new_zap($alloc,conf,$buffer), TablesPlugin::Zap, SomePlugin::Tables),
+            PluginConf::Svremove(conf) => made!(new_svremove($alloc,conf,$buffer), TablesPlugin::Svremove, SomePlugin::Tables),
+            PluginConf::Svrename(conf) => made!(new_rename($alloc,conf,$buffer), TablesPlugin::Svrename, SomePlugin::Tables),
+            PluginConf::Analyze(conf) => made!(Analyze::new($alloc,conf,$buffer), ReportsPlugin::Analyze, SomePlugin::Reports),
+            PluginConf::Info(conf) => made!(Info::new($alloc,conf,$buffer), ReportsPlugin::Info, SomePlugin::Reports),
+            PluginConf::Tables(conf) => made!(Tables::new($alloc,conf,$buffer), ReportsPlugin::Tables, SomePlugin::Reports),
+            PluginConf::Compact(conf) => made!(new_compact($alloc,&conf.window,$buffer), PacketsPlugin::Compact, SomePlugin::Packets),
+            PluginConf::Rmorphan(conf) => made!(new_rmorphan($alloc,&conf.window), PacketsPlugin::Rmorphan, SomePlugin::Packets),
+            PluginConf::Pcrverify(conf) => made!(Pcrverify::new($alloc,conf,$buffer), ReportsPlugin::Pcrverify, SomePlugin::Reports),
+            PluginConf::Timestamps(conf) => made!(Timestamps::new($alloc,conf,$buffer), ReportsPlugin::Timestamps, SomePlugin::Reports),
+            PluginConf::Rate(conf) => made!(Rate::new($alloc,conf,$buffer), ReportsPlugin::Rate, SomePlugin::Reports),
+            PluginConf::Monitor(conf) => made!(Monitor::new($alloc,conf,$buffer), ReportsPlugin::Monitor, SomePlugin::Reports),
+            PluginConf::Restuff(conf) => made!(new_restuff($alloc,conf,$buffer), PacketsPlugin::Restuff, SomePlugin::Packets),
         }
     };
 }
@@ -170,135 +122,33 @@ impl SomePlugin {
 }
 
 impl Plugin for SomePlugin {
-    ghost use Rattle.std.specs.Prelude.{refl};
-    ghost use Rattle.plugin_set.specs.declared.some_plugin.SomePlugin.TheVariants.{Filter as MadeFilter, Skip as MadeSkip, Slice as MadeSlice, Pattern as MadePattern, Until as MadeUntil, Count as MadeCount, Continuity as MadeContinuity, Remap as MadeRemap, Inject as MadeInject, Pat as MadePat, Cat as MadeCat, Pmt as MadePmt, Sdt as MadeSdt, Nit as MadeNit, Time as MadeTime, Eit as MadeEit, Zap as MadeZap, Svremove as MadeSvremove, Svrename as MadeSvrename, Analyze as MadeAnalyze, Info as MadeInfo, Tables as MadeTables, Compact as MadeCompact, Rmorphan as MadeRmorphan, Pcrverify as MadePcrverify, Timestamps as MadeTimestamps, Rate as MadeRate, Monitor as MadeMonitor, Restuff as MadeRestuff};
+    ghost use Rattle.set_packets.specs.contracts.packets_plugin.PacketsPluginPlugin.TheImpl.Laws.{lawful as packets_laws};
+    ghost use Rattle.set_reports.specs.contracts.reports_plugin.ReportsPluginPlugin.TheImpl.Laws.{lawful as reports_laws};
+    ghost use Rattle.set_tables.specs.contracts.tables_plugin.TablesPluginPlugin.TheImpl.Laws.{lawful as tables_laws};
+    ghost use Rattle.plugin_set.specs.declared.some_plugin.SomePlugin.TheVariants.{Packets as MadePackets, Reports as MadeReports, Tables as MadeTables};
 
     ghost rule = { elim [
-      | MadeFilter p ↦ ⟦<Filter as Plugin>⟧.rule p
-      | MadeSkip p ↦ ⟦<Skip as Plugin>⟧.rule p
-      | MadeSlice p ↦ ⟦<Slice as Plugin>⟧.rule p
-      | MadePattern p ↦ ⟦<Pattern as Plugin>⟧.rule p
-      | MadeUntil p ↦ ⟦<Until as Plugin>⟧.rule p
-      | MadeCount p ↦ ⟦<Count as Plugin>⟧.rule p
-      | MadeContinuity p ↦ ⟦<Continuity as Plugin>⟧.rule p
-      | MadeRemap p ↦ ⟦<Remap as Plugin>⟧.rule p
-      | MadeInject p ↦ ⟦<Inject as Plugin>⟧.rule p
-      | MadePat p ↦ ⟦<EditPat as Plugin>⟧.rule p
-      | MadeCat p ↦ ⟦<EditCat as Plugin>⟧.rule p
-      | MadePmt p ↦ ⟦<EditPmt as Plugin>⟧.rule p
-      | MadeSdt p ↦ ⟦<EditSdt as Plugin>⟧.rule p
-      | MadeNit p ↦ ⟦<EditNit as Plugin>⟧.rule p
-      | MadeTime p ↦ ⟦<Time as Plugin>⟧.rule p
-      | MadeEit p ↦ ⟦<Eit as Plugin>⟧.rule p
-      | MadeZap p ↦ ⟦<Zap as Plugin>⟧.rule p
-      | MadeSvremove p ↦ ⟦<Svremove as Plugin>⟧.rule p
-      | MadeSvrename p ↦ ⟦<Rename as Plugin>⟧.rule p
-      | MadeAnalyze p ↦ ⟦<Analyze as Plugin>⟧.rule p
-      | MadeInfo p ↦ ⟦<Info as Plugin>⟧.rule p
-      | MadeTables p ↦ ⟦<Tables as Plugin>⟧.rule p
-      | MadeCompact p ↦ ⟦<Compact as Plugin>⟧.rule p
-      | MadeRmorphan p ↦ ⟦<Rmorphan as Plugin>⟧.rule p
-      | MadePcrverify p ↦ ⟦<Pcrverify as Plugin>⟧.rule p
-      | MadeTimestamps p ↦ ⟦<Timestamps as Plugin>⟧.rule p
-      | MadeRate p ↦ ⟦<Rate as Plugin>⟧.rule p
-      | MadeMonitor p ↦ ⟦<Monitor as Plugin>⟧.rule p
-      | MadeRestuff p ↦ ⟦<Restuff as Plugin>⟧.rule p
+      | MadePackets p ↦ ⟦<PacketsPlugin as Plugin>⟧.rule p
+      | MadeReports p ↦ ⟦<ReportsPlugin as Plugin>⟧.rule p
+      | MadeTables p ↦ ⟦<TablesPlugin as Plugin>⟧.rule p
     ] };
 
     ghost stands_for = { elim [
-      | MadeFilter p ↦ ⟦<Filter as Plugin>⟧.stands_for p
-      | MadeSkip p ↦ ⟦<Skip as Plugin>⟧.stands_for p
-      | MadeSlice p ↦ ⟦<Slice as Plugin>⟧.stands_for p
-      | MadePattern p ↦ ⟦<Pattern as Plugin>⟧.stands_for p
-      | MadeUntil p ↦ ⟦<Until as Plugin>⟧.stands_for p
-      | MadeCount p ↦ ⟦<Count as Plugin>⟧.stands_for p
-      | MadeContinuity p ↦ ⟦<Continuity as Plugin>⟧.stands_for p
-      | MadeRemap p ↦ ⟦<Remap as Plugin>⟧.stands_for p
-      | MadeInject p ↦ ⟦<Inject as Plugin>⟧.stands_for p
-      | MadePat p ↦ ⟦<EditPat as Plugin>⟧.stands_for p
-      | MadeCat p ↦ ⟦<EditCat as Plugin>⟧.stands_for p
-      | MadePmt p ↦ ⟦<EditPmt as Plugin>⟧.stands_for p
-      | MadeSdt p ↦ ⟦<EditSdt as Plugin>⟧.stands_for p
-      | MadeNit p ↦ ⟦<EditNit as Plugin>⟧.stands_for p
-      | MadeTime p ↦ ⟦<Time as Plugin>⟧.stands_for p
-      | MadeEit p ↦ ⟦<Eit as Plugin>⟧.stands_for p
-      | MadeZap p ↦ ⟦<Zap as Plugin>⟧.stands_for p
-      | MadeSvremove p ↦ ⟦<Svremove as Plugin>⟧.stands_for p
-      | MadeSvrename p ↦ ⟦<Rename as Plugin>⟧.stands_for p
-      | MadeAnalyze p ↦ ⟦<Analyze as Plugin>⟧.stands_for p
-      | MadeInfo p ↦ ⟦<Info as Plugin>⟧.stands_for p
-      | MadeTables p ↦ ⟦<Tables as Plugin>⟧.stands_for p
-      | MadeCompact p ↦ ⟦<Compact as Plugin>⟧.stands_for p
-      | MadeRmorphan p ↦ ⟦<Rmorphan as Plugin>⟧.stands_for p
-      | MadePcrverify p ↦ ⟦<Pcrverify as Plugin>⟧.stands_for p
-      | MadeTimestamps p ↦ ⟦<Timestamps as Plugin>⟧.stands_for p
-      | MadeRate p ↦ ⟦<Rate as Plugin>⟧.stands_for p
-      | MadeMonitor p ↦ ⟦<Monitor as Plugin>⟧.stands_for p
-      | MadeRestuff p ↦ ⟦<Restuff as Plugin>⟧.stands_for p
+      | MadePackets p ↦ ⟦<PacketsPlugin as Plugin>⟧.stands_for p
+      | MadeReports p ↦ ⟦<ReportsPlugin as Plugin>⟧.stands_for p
+      | MadeTables p ↦ ⟦<TablesPlugin as Plugin>⟧.stands_for p
     ] };
 
     ghost preallocated = { elim [
-      | MadeFilter p ↦ ⟦<Filter as Plugin>⟧.preallocated p
-      | MadeSkip p ↦ ⟦<Skip as Plugin>⟧.preallocated p
-      | MadeSlice p ↦ ⟦<Slice as Plugin>⟧.preallocated p
-      | MadePattern p ↦ ⟦<Pattern as Plugin>⟧.preallocated p
-      | MadeUntil p ↦ ⟦<Until as Plugin>⟧.preallocated p
-      | MadeCount p ↦ ⟦<Count as Plugin>⟧.preallocated p
-      | MadeContinuity p ↦ ⟦<Continuity as Plugin>⟧.preallocated p
-      | MadeRemap p ↦ ⟦<Remap as Plugin>⟧.preallocated p
-      | MadeInject p ↦ ⟦<Inject as Plugin>⟧.preallocated p
-      | MadePat p ↦ ⟦<EditPat as Plugin>⟧.preallocated p
-      | MadeCat p ↦ ⟦<EditCat as Plugin>⟧.preallocated p
-      | MadePmt p ↦ ⟦<EditPmt as Plugin>⟧.preallocated p
-      | MadeSdt p ↦ ⟦<EditSdt as Plugin>⟧.preallocated p
-      | MadeNit p ↦ ⟦<EditNit as Plugin>⟧.preallocated p
-      | MadeTime p ↦ ⟦<Time as Plugin>⟧.preallocated p
-      | MadeEit p ↦ ⟦<Eit as Plugin>⟧.preallocated p
-      | MadeZap p ↦ ⟦<Zap as Plugin>⟧.preallocated p
-      | MadeSvremove p ↦ ⟦<Svremove as Plugin>⟧.preallocated p
-      | MadeSvrename p ↦ ⟦<Rename as Plugin>⟧.preallocated p
-      | MadeAnalyze p ↦ ⟦<Analyze as Plugin>⟧.preallocated p
-      | MadeInfo p ↦ ⟦<Info as Plugin>⟧.preallocated p
-      | MadeTables p ↦ ⟦<Tables as Plugin>⟧.preallocated p
-      | MadeCompact p ↦ ⟦<Compact as Plugin>⟧.preallocated p
-      | MadeRmorphan p ↦ ⟦<Rmorphan as Plugin>⟧.preallocated p
-      | MadePcrverify p ↦ ⟦<Pcrverify as Plugin>⟧.preallocated p
-      | MadeTimestamps p ↦ ⟦<Timestamps as Plugin>⟧.preallocated p
-      | MadeRate p ↦ ⟦<Rate as Plugin>⟧.preallocated p
-      | MadeMonitor p ↦ ⟦<Monitor as Plugin>⟧.preallocated p
-      | MadeRestuff p ↦ ⟦<Restuff as Plugin>⟧.preallocated p
+      | MadePackets p ↦ ⟦<PacketsPlugin as Plugin>⟧.preallocated p
+      | MadeReports p ↦ ⟦<ReportsPlugin as Plugin>⟧.preallocated p
+      | MadeTables p ↦ ⟦<TablesPlugin as Plugin>⟧.preallocated p
     ] };
 
     ghost silent = { elim [
-      | MadeFilter p ↦ ⟦<Filter as Plugin>⟧.silent p
-      | MadeSkip p ↦ ⟦<Skip as Plugin>⟧.silent p
-      | MadeSlice p ↦ ⟦<Slice as Plugin>⟧.silent p
-      | MadePattern p ↦ ⟦<Pattern as Plugin>⟧.silent p
-      | MadeUntil p ↦ ⟦<Until as Plugin>⟧.silent p
-      | MadeCount p ↦ ⟦<Count as Plugin>⟧.silent p
-      | MadeContinuity p ↦ ⟦<Continuity as Plugin>⟧.silent p
-      | MadeRemap p ↦ ⟦<Remap as Plugin>⟧.silent p
-      | MadeInject p ↦ ⟦<Inject as Plugin>⟧.silent p
-      | MadePat p ↦ ⟦<EditPat as Plugin>⟧.silent p
-      | MadeCat p ↦ ⟦<EditCat as Plugin>⟧.silent p
-      | MadePmt p ↦ ⟦<EditPmt as Plugin>⟧.silent p
-      | MadeSdt p ↦ ⟦<EditSdt as Plugin>⟧.silent p
-      | MadeNit p ↦ ⟦<EditNit as Plugin>⟧.silent p
-      | MadeTime p ↦ ⟦<Time as Plugin>⟧.silent p
-      | MadeEit p ↦ ⟦<Eit as Plugin>⟧.silent p
-      | MadeZap p ↦ ⟦<Zap as Plugin>⟧.silent p
-      | MadeSvremove p ↦ ⟦<Svremove as Plugin>⟧.silent p
-      | MadeSvrename p ↦ ⟦<Rename as Plugin>⟧.silent p
-      | MadeAnalyze p ↦ ⟦<Analyze as Plugin>⟧.silent p
-      | MadeInfo p ↦ ⟦<Info as Plugin>⟧.silent p
-      | MadeTables p ↦ ⟦<Tables as Plugin>⟧.silent p
-      | MadeCompact p ↦ ⟦<Compact as Plugin>⟧.silent p
-      | MadeRmorphan p ↦ ⟦<Rmorphan as Plugin>⟧.silent p
-      | MadePcrverify p ↦ ⟦<Pcrverify as Plugin>⟧.silent p
-      | MadeTimestamps p ↦ ⟦<Timestamps as Plugin>⟧.silent p
-      | MadeRate p ↦ ⟦<Rate as Plugin>⟧.silent p
-      | MadeMonitor p ↦ ⟦<Monitor as Plugin>⟧.silent p
-      | MadeRestuff p ↦ ⟦<Restuff as Plugin>⟧.silent p
+      | MadePackets p ↦ ⟦<PacketsPlugin as Plugin>⟧.silent p
+      | MadeReports p ↦ ⟦<ReportsPlugin as Plugin>⟧.silent p
+      | MadeTables p ↦ ⟦<TablesPlugin as Plugin>⟧.silent p
     ] };
 
     fn step(&mut self, at: u64, packet: &mut Packet, labels: &mut Labels) -> Outcome {
@@ -336,34 +186,8 @@ impl Plugin for SomePlugin {
     }
 
     ghost starts_open = { elim [
-      | MadeFilter p ↦ λ history mark stands. refl
-      | MadeSkip p ↦ λ history mark stands. refl
-      | MadeSlice p ↦ λ history mark stands. refl
-      | MadePattern p ↦ λ history mark stands. refl
-      | MadeUntil p ↦ λ history mark stands. stands.open_at_first
-      | MadeCount p ↦ λ history mark stands. refl
-      | MadeContinuity p ↦ λ history mark stands. refl
-      | MadeRemap p ↦ λ history mark stands. refl
-      | MadeInject p ↦ λ history mark stands. refl
-      | MadePat p ↦ λ history mark stands. refl
-      | MadeCat p ↦ λ history mark stands. refl
-      | MadePmt p ↦ λ history mark stands. refl
-      | MadeSdt p ↦ λ history mark stands. refl
-      | MadeNit p ↦ λ history mark stands. refl
-      | MadeTime p ↦ λ history mark stands. refl
-      | MadeEit p ↦ λ history mark stands. refl
-      | MadeZap p ↦ λ history mark stands. refl
-      | MadeSvremove p ↦ λ history mark stands. refl
-      | MadeSvrename p ↦ λ history mark stands. refl
-      | MadeAnalyze p ↦ λ history mark stands. refl
-      | MadeInfo p ↦ λ history mark stands. refl
-      | MadeTables p ↦ λ history mark stands. refl
-      | MadeCompact p ↦ λ history mark stands. refl
-      | MadeRmorphan p ↦ λ history mark stands. refl
-      | MadePcrverify p ↦ λ history mark stands. refl
-      | MadeTimestamps p ↦ λ history mark stands. refl
-      | MadeRate p ↦ λ history mark stands. refl
-      | MadeMonitor p ↦ λ history mark stands. refl
-      | MadeRestuff p ↦ λ history mark stands. refl
+      | MadePackets p ↦ λ history mark stands. packets_laws.starts_open p history mark stands
+      | MadeReports p ↦ λ history mark stands. reports_laws.starts_open p history mark stands
+      | MadeTables p ↦ λ history mark stands. tables_laws.starts_open p history mark stands
     ] };
 }

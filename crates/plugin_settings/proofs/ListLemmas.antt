@@ -12,7 +12,7 @@ use Rattle.std.proofs.lemmas.Bool.{both_ways}
 use Rattle.plug_every.specs.EveryRule.{rule_every}
 use Rattle.plug_every.specs.EveryStands.{silent_every}
 use Rattle.plugin_settings.specs.Items.{is_silent_item, rule_of_item}
-use Rattle.plugin_settings.specs.OnlyLabels.{rule_for}
+use Rattle.plug_masked.specs.OnlyLabels.{rule_for}
 use Rattle.plugin_settings.proofs.SilentRules.{silent_rule_of}
 use Rattle.plugin_settings.specs.declared.plugin_item.PluginItem.{PluginItem}
 use Rattle.plugin_settings.specs.Plugins.{is_silent, rule_of, table_file_of, uses_joint}

@@ -18,7 +18,7 @@ use Rattle.plugin_options.specs.declared.words_rule.WordsRule.{WordsRule}
 use Rattle.plugin_options.specs.declared.words_rule.WordsRule.TheVariants.{Conflict, Value}
 use Rattle.plug_every.specs.EveryRule.{rule_every}
 use Rattle.plug_every.specs.EveryStands.{preallocated_every, silent_every}
-use Rattle.plugin_settings.specs.OnlyLabels.{rule_for}
+use Rattle.plug_masked.specs.OnlyLabels.{rule_for}
 use Rattle.plugin_settings.specs.Plugins.{IsValid, has_summary, is_silent, options_of_plugin, preallocated_of, rule_of}
 use Rattle.plugin_settings.specs.declared.plugin_conf.PluginConf.{PluginConf}
 use Rattle.plugin_settings.specs.declared.plugin_conf.PluginKind.{PluginKind}

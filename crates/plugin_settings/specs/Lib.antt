@@ -1,4 +1,3 @@
 -- The definitions of the settings of all plugins.
 pub mod Plugins
-pub mod OnlyLabels
 pub mod Items

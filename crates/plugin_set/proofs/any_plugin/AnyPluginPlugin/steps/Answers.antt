@@ -4,7 +4,7 @@ use Rattle.chain_model.specs.Apply.{apply_after}
 use Rattle.plugin_trait.specs.Driving.{Makes}
 use Rattle.plugin_set.specs.contracts.some_plugin.SomePluginPlugin.TheImpl.{ghosts as some}
 use Rattle.plug_every.specs.EveryStands.{StandsMaybe, rule_of_maybe}
-use Rattle.plugin_settings.specs.OnlyLabels.{rule_for, shown}
+use Rattle.plug_masked.specs.OnlyLabels.{rule_for, shown}
 use Rattle.plugin_set.proofs.any_plugin.AnyPluginPlugin.steps.Goals as goal
 
 pub returns-in-None-clause-makes : goal.returns-in-None-clause-makes

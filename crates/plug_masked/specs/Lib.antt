@@ -1,0 +1,2 @@
+-- The definitions of a plugin that sees only packets with some labels.
+pub mod OnlyLabels
