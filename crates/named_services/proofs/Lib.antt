@@ -2,4 +2,5 @@
 pub mod NameLemmas
 pub mod SdtLemmas
 pub mod WordLemmas
+pub mod WordLists
 mod Rows

@@ -2,7 +2,7 @@
 -- ISO/IEC 13818-1, 2.4.4.5: a program_number has 16 bits, and 0 is not that of a service. This project's own rule: a word is a
 -- number from 1 to 65535, or, where it is no number, a name. Another number and the empty word are none. A word that is
 -- given twice counts once.
-use Rattle.std.specs.Prelude.{ℕ, ◌==◌, ◌++◌, ◌∷◌, [], Bool, true, false, List, bytes_eq, fold, length, Option, Some, None, option_map, if◌then◌else◌}
+use Rattle.std.specs.Prelude.{ℕ, ◌<◌, ◌==◌, ◌++◌, ◌∷◌, [], Bool, true, false, List, bytes_eq, fold, length, Option, Some, None, option_map, if◌then◌else◌}
 use Rattle.std.specs.List.{filter_map, list_any}
 use Rattle.plugin_options.specs.Number.{if_within, number_of}
 use Rattle.plugin_options.specs.declared.limits.TheConstants.{LAST_SERVICE}
@@ -21,6 +21,11 @@ word_by (Some n) text = option_map (λ id. Number id) (if_within 1 LAST_SERVICE 
 -- the word that a text is
 abbrev pub word_of : List ℕ → Option ServiceWord
 word_of text = word_by (number_of text) text
+
+-- a word says which service is meant: a number is that of a service, and a name is not empty
+abbrev pub SaysService : ServiceWord → Type 0
+SaysService (Number id) = (0 < id) × (id < 65536)
+SaysService (Name name) = 0 < length name
 
 -- whether two words are the same number or the same name
 abbrev pub is_same : ServiceWord → ServiceWord → Bool

@@ -13,6 +13,7 @@ mod service_names;
 mod service_texts;
 mod service_word;
 mod services_reading;
+mod unnamed;
 mod word_list;
 mod word_reading;
 
@@ -24,5 +25,6 @@ pub use service_names::{name_in, provider_in, type_in};
 pub use service_texts::{body_with, service_body};
 pub use service_word::ServiceWord;
 pub use services_reading::read_services;
+pub use unnamed::Unnamed;
 pub use word_list::ServiceWords;
 pub use word_reading::read_service;

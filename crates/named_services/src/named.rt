@@ -45,7 +45,7 @@ fn numbers_of(
 }
 
 // The number that a word means.
-fn number_by(
+pub(crate) fn number_by(
     alloc: Global,
     word: &ServiceWord,
     sdt: Option<&Sdt>,

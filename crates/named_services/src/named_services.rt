@@ -12,9 +12,11 @@ ghost use Rattle.named_services.specs.SdtStands.{HasFedSdt};
 ghost use Rattle.named_services.specs.ServiceWords.{has_name};
 
 use crate::meant::Meant;
-use crate::named::numbers_by;
+use crate::named::{number_by, numbers_by};
 use crate::sdt_in_force::SdtInForce;
 use crate::service_list::ServiceList;
+use crate::service_word::ServiceWord;
+use crate::unnamed::Unnamed;
 use crate::word_list::ServiceWords;
 use plug_psi::InForce;
 use service_items::stream_in_force;
@@ -66,6 +68,21 @@ impl NamedServices {
         ensures { (words : List GivenWord) (met : List (List ℕ)) → NamesStand words self.now met → result ≡ are_unknown words met }
     {
         self.meant.unknown
+    }
+
+    /// Why a word means no service by the tables in force, of several the first; `None` where each means one.
+    pub fn unnamed(&self, force: &InForce) -> Result<Option<Unnamed>, AllocError> {
+        let Some(sdts) = &self.sdts else {
+            return Ok(None);
+        };
+        let sdt = sdts.in_force(stream_in_force(force));
+        if is_missing(sdt) {
+            return Ok(Some(Unnamed::NoSdt));
+        }
+        if all_mean_one(self.alloc, self.words.as_slice(), sdt)? {
+            return Ok(None);
+        }
+        Ok(Some(Unnamed::NoName))
     }
 
     /// Meets the next packet, of any PID, which has a position; the tables in force are those with it, and `came` says
@@ -160,6 +177,20 @@ fn meant_by(
         services,
         unknown: is_missing(sdt),
     })
+}
+
+// Whether each word means a service where this SDT is in force.
+fn all_mean_one(
+    alloc: Global,
+    words: &[ServiceWord],
+    sdt: Option<&Sdt>,
+) -> Result<bool, AllocError> {
+    for word in words {
+        if number_by(alloc, word, sdt)?.is_none() {
+            return Ok(false);
+        }
+    }
+    Ok(true)
 }
 
 // Whether there is no SDT.

@@ -60,6 +60,7 @@ mod zap_conf;
 mod zap_words;
 
 pub use kept::Kept;
+pub use named_services::Unnamed;
 pub use service_conf::ServiceConf;
 pub use service_steps::ServiceSteps;
 pub use svremove::{Svremove, new_svremove};

@@ -14,7 +14,7 @@ ghost use Rattle.plug_service.specs.EditorsState.{left_by};
 use crate::editors::Editors;
 use crate::service_follower::ServiceFollower;
 use crate::way::Way;
-use named_services::ServiceWords;
+use named_services::{ServiceWords, Unnamed};
 use plug_psi::{Changes, FailureLatch, Unedited, both, pid_of_service};
 use plugin_trait::{FirstFind, Outcome, Steps};
 use std::alloc::{AllocError, Global};
@@ -81,6 +81,11 @@ impl ServiceSteps {
             }
         }
         None
+    }
+
+    /// Why a name means no service by the tables in force, of several the first; `None` where each means one.
+    pub fn unnamed(&self) -> Result<Option<Unnamed>, AllocError> {
+        self.follower.names.unnamed(&self.follower.force)
     }
 
     /// What is missing of a service by the tables in force.

@@ -5,6 +5,7 @@ use plug_eit::Eit;
 use plug_inject::Inject;
 use plug_move::Remap;
 use plug_psi::Unedited;
+use plug_service::{ServiceSteps, Unnamed};
 use plug_tables::Tables;
 use plug_time::Time;
 use set_packets::PacketsPlugin;
@@ -17,6 +18,10 @@ use std::alloc::AllocError;
 pub enum Idle {
     /// The plugin edits tables, and edited none.
     Unedited(Unedited),
+    /// A service is given by its name, and no SDT came.
+    NoSdt,
+    /// A service is given by a name that none has in the last SDT.
+    NoName,
     /// No packet came on the PIDs that are moved.
     NoneMoved,
     /// No packet came on the PID whose packets are replaced.
@@ -55,8 +60,8 @@ fn idle_of_tables(plugin: &TablesPlugin) -> Result<Option<Idle>, AllocError> {
         TablesPlugin::Pmt(plugin) => idle_editor(plugin.steps.unedited()),
         TablesPlugin::Sdt(plugin) => idle_editor(plugin.steps.unedited()),
         TablesPlugin::Nit(plugin) => idle_editor(plugin.steps.unedited()),
-        TablesPlugin::Zap(plugin) => idle_editor(Ok(plugin.steps.unedited())),
-        TablesPlugin::Svremove(plugin) => idle_editor(Ok(plugin.steps.unedited())),
+        TablesPlugin::Zap(plugin) => idle_services(&plugin.steps),
+        TablesPlugin::Svremove(plugin) => idle_services(&plugin.steps),
         TablesPlugin::Svrename(plugin) => idle_editor(Ok(plugin.steps.unedited())),
         TablesPlugin::Time(plugin) => Ok(idle_time(plugin)),
         TablesPlugin::Eit(plugin) => Ok(idle_eit(plugin)),
@@ -72,6 +77,17 @@ fn idle_of_reports(plugin: &ReportsPlugin) -> Option<Idle> {
 
 fn idle_editor(found: Result<Option<Unedited>, AllocError>) -> Result<Option<Idle>, AllocError> {
     Ok(found?.map(Idle::Unedited))
+}
+
+fn idle_services(steps: &ServiceSteps) -> Result<Option<Idle>, AllocError> {
+    if let Some(why) = steps.unedited() {
+        return Ok(Some(Idle::Unedited(why)));
+    }
+    match steps.unnamed()? {
+        Some(Unnamed::NoSdt) => Ok(Some(Idle::NoSdt)),
+        Some(Unnamed::NoName) => Ok(Some(Idle::NoName)),
+        None => Ok(None),
+    }
 }
 
 fn idle_remap(plugin: &Remap) -> Option<Idle> {

@@ -1,7 +1,8 @@
 //! Tests of `zap` and `svremove`: what is left of the generated stream, which has service 1 with PIDs 256 and 257 and
 //! service 2 with PIDs 256, 258 and 259.
 
-ghost use Rattle.std.specs.Prelude.{◌≡◌, [], IfOk, length};
+ghost use Rattle.std.specs.Prelude.{◌≡◌, ◌∷◌, [], IfOk};
+ghost use Rattle.named_services.specs.declared.service_word.ServiceWord.TheVariants.{Number};
 
 use crate::cells::{bytes_from, given, live};
 use crate::compared::{holds, same};
@@ -69,7 +70,7 @@ fn begins(rt: &impl Abort, cells: &[Cell], wanted: &[u8]) {
 
 /// The word that is the number 1.
 fn service_1(alloc: Global) -> Result<ServiceWords, AllocError>
-    ensures { IfOk result (λ words. length words ≡ 1) }
+    ensures { IfOk result (λ words. words ≡ Number 1 ∷ []) }
 {
     let mut words = ServiceWords::none(alloc);
     words.add(ServiceWord::Number(1))?;

@@ -25,6 +25,10 @@ fn unedited_text(alloc: Global, why: Unedited) -> Result<String, AllocError> {
 fn why_text(alloc: Global, why: Idle) -> Result<String, AllocError> {
     match why {
         Idle::Unedited(why) => unedited_text(alloc, why),
+        Idle::NoSdt => format!(in alloc; "no SDT came that names services"),
+        Idle::NoName => format!(in alloc;
+            "the last SDT has no service of that name; -P info lists those that it has"
+        ),
         Idle::NoneMoved => format!(in alloc; "no packet came on the PIDs that it moves"),
         Idle::NoPlace(pid) => format!(in alloc;
             "no packet came on PID {pid} whose place it could take"
