@@ -48,6 +48,8 @@ def taken(takes, path):
     kind, _, words = takes.partition("Takes::")[2].partition("(")
     if kind in ("Choice", "Words"):
         return []
+    if kind.strip().startswith("Service"):
+        return [1, value_of("LAST_SERVICE", path)]
     numbers = [value_of(it, path) for it in re.findall(r"(?<!:)\b(?:[A-Z][A-Z_]+\b|\d[\d_]*)", words)]
     return [0, *numbers] if kind == "Ranges" else numbers
 
