@@ -3,7 +3,7 @@ use Rattle.std.proofs.Common.{◌≡◌, ℕ, ◌<◌, ◌==◌, ◌&&◌, Bool,
 use Rattle.std.specs.Prelude.{bytes_eq, filter_map, fold, nat_le, option_map, if◌then◌else◌}
 use Rattle.std.specs.Cmp.{IsEquivalence}
 use Rattle.std.specs.List.{All, IsDistinct, cons_option}
-use Rattle.std.specs.Option.{ForSome}
+use Rattle.std.specs.Option.{IfSome}
 use Rattle.std.proofs.lemmas.Cmp.{nat_list_eq_equiv}
 use Rattle.std.specs.Cmp.{nat_eq_equiv}
 use Rattle.std.proofs.lemmas.List.Elements.{All-cons, All-head, All-nil, All-push, All-tail}
@@ -16,20 +16,20 @@ use Rattle.named_services.specs.declared.service_word.ServiceWord.{ServiceWord}
 use Rattle.named_services.specs.declared.service_word.ServiceWord.TheVariants.{Name, Number}
 
 -- the word that a text is says which service is meant
-says-number : (b : Bool) (n : ℕ) → (nat_le 1 n && nat_le n LAST_SERVICE) ≡ b → ForSome (option_map (λ id. Number id) (if b then Some n else None)) SaysService
+says-number : (b : Bool) (n : ℕ) → (nat_le 1 n && nat_le n LAST_SERVICE) ≡ b → IfSome (option_map (λ id. Number id) (if b then Some n else None)) SaysService
 says-number true n e = (grind (arith, nat_tests, e), grind (arith, nat_tests, e))
 says-number false n e = tt
 
-says-name : (b : Bool) (text : List ℕ) → (length text == 0) ≡ b → ForSome (if b then None else Some (Name text)) SaysService
+says-name : (b : Bool) (text : List ℕ) → (length text == 0) ≡ b → IfSome (if b then None else Some (Name text)) SaysService
 says-name true text e = tt
 says-name false text e = grind (arith, nat_tests, e)
 
-says-by : (o : Option ℕ) (text : List ℕ) → ForSome (word_by o text) SaysService
+says-by : (o : Option ℕ) (text : List ℕ) → IfSome (word_by o text) SaysService
 says-by None text = says-name (length text == 0) text refl
 says-by (Some n) text = says-number (nat_le 1 n && nat_le n LAST_SERVICE) n refl
 
 -- so do the words of several texts
-says-cons : (o : Option ServiceWord) (words : List ServiceWord) → ForSome o SaysService → All SaysService words → All SaysService (cons_option o words)
+says-cons : (o : Option ServiceWord) (words : List ServiceWord) → IfSome o SaysService → All SaysService words → All SaysService (cons_option o words)
 says-cons None words h hs = hs
 says-cons (Some w) words h hs = All-cons SaysService w words h hs
 
