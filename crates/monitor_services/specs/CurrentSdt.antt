@@ -3,7 +3,8 @@
 use Rattle.std.specs.Prelude.{◌≡◌, ℕ, List, option_map}
 use Rattle.ts_demux.specs.PidTables.{StandsFor}
 use Rattle.ts_si.specs.SiTables.{sdt_held}
-pub use Rattle.named_services.specs.SdtInForce.{current_sdt, items_in, last_sdt, of_actual}
+pub use Rattle.named_services.specs.SdtInForce.{current_sdt, items_in, of_actual}
+unfoldable pub use Rattle.named_services.specs.SdtInForce.{last_sdt}
 use Rattle.monitor_services.specs.declared.current_sdt.CurrentSdt.{CurrentSdt}
 
 -- the tables on PID 17 were read from all packets fed, and the last SDT is kept
