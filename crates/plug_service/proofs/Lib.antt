@@ -2,6 +2,7 @@ pub mod ActionLemmas
 pub mod EditLemmas
 pub mod PartLemmas
 pub mod PidLemmas
+pub mod PresentLemmas
 pub mod FlagLemmas
 pub mod FlowLemmas
 pub mod StepLemmas

@@ -24,10 +24,16 @@ impl Present {
     pub(crate) fn is_same(&self, other: &Present) -> bool
         ensures { result ≡ true → self.now ≡ other.now }
     {
-        self.way == other.way
-            && self.unknown == other.unknown
-            && self.stream == other.stream
-            && self.services.as_slice() == other.services.as_slice()
+        if !same_way(self.way, other.way) {
+            return false;
+        }
+        if !same_flag(self.unknown, other.unknown) {
+            return false;
+        }
+        if !same_stream(self.stream, other.stream) {
+            return false;
+        }
+        same_services(&self.services, &other.services)
     }
 
     /// The same in memory of its own.
@@ -51,4 +57,36 @@ impl Present {
             Way::Remove { .. } => false,
         }
     }
+}
+
+// Whether both are the same way.
+#[inline]
+fn same_way(one: Way, other: Way) -> bool
+    ensures { result ≡ true → one ≡ other }
+{
+    one == other
+}
+
+// Whether both are the same truth value.
+#[inline]
+fn same_flag(one: bool, other: bool) -> bool
+    ensures { result ≡ true → one ≡ other }
+{
+    one == other
+}
+
+// Whether both are the same number, or none.
+#[inline]
+fn same_stream(one: Option<u16>, other: Option<u16>) -> bool
+    ensures { result ≡ true → one ≡ other }
+{
+    one == other
+}
+
+// Whether both are the same services in the same order.
+#[inline]
+fn same_services(one: &ServiceList, other: &ServiceList) -> bool
+    ensures { result ≡ true → one.now ≡ other.now }
+{
+    one.as_slice() == other.as_slice()
 }
