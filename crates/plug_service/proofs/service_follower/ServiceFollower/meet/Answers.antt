@@ -28,7 +28,7 @@ returns-clause-tells c = λ way words met h.
     let next = c.in_ok-renew_where.ensures.stands way words met c.args.packet.now forced named
     (λ none. let both = neither c.in_ok-came.came c.in_ok-other.other (sym c.either-changed.ensures ∙ none) in
     (same both.0, c.in_ok-other.ensures.same both.1 words met h.named forced same)) h.present h.fated in
-    c.action.ensures.tells _ (pat_of after) (λ other. pmt_of other after) next.1
+    c.action.ensures.tells c.renew_where.new.present (pat_of after) (λ other. pmt_of other after) next.1
     ∙ ap (λ (p : Present). action_of p.way p.services (pat_of after) (λ other. pmt_of other after) c.pid.result) next.0
     ∙ ap (λ n. action_of way (services_after words after) (pat_of after) (λ other. pmt_of other after) n) c.pid.ensures.field
     ∙ action-after way words after (pid_of c.args.packet.now)
@@ -50,7 +50,7 @@ returns-clause-unread c = λ way words met h unread.
     (λ none. let both = neither c.in_ok-came.came c.in_ok-other.other (sym c.either-changed.ensures ∙ none) in
     (same both.0, c.in_ok-other.ensures.same both.1 words met h.named forced same)) h.present h.fated in
     unread-plain way words met c.args.packet.now c.action.result
-    (c.action.ensures.tells _ (pat_of after) (λ other. pmt_of other after) next.1
+    (c.action.ensures.tells c.renew_where.new.present (pat_of after) (λ other. pmt_of other after) next.1
     ∙ ap (λ (p : Present). action_of p.way p.services (pat_of after) (λ other. pmt_of other after) c.pid.result) next.0
     ∙ ap (λ n. action_of way (services_after words after) (pat_of after) (λ other. pmt_of other after) n) c.pid.ensures.field
     ∙ action-after way words after (pid_of c.args.packet.now)) unread

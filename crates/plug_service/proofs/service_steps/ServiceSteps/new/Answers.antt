@@ -1,4 +1,4 @@
-use Rattle.std.proofs.Common.{ℕ, [], List, IfOk, sym, subst}
+use Rattle.std.proofs.Common.{[], List, IfOk, sym, subst}
 use Rattle.named_services.specs.declared.service_word.ServiceWord.{ServiceWord}
 use Rattle.plug_service.specs.EditorsState.{EditorsStand}
 use Rattle.plug_service.specs.ActionsState.{FollowsServices}
