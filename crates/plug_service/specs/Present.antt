@@ -1,6 +1,6 @@
 -- What is in force at a packet, as far as edits of tables go by it.
 -- This project's own rule: which services words mean, and which transport stream the PAT is of, after the packets up to there.
-use Rattle.std.specs.Prelude.{ℕ, Bool, List, false}
+use Rattle.std.specs.Prelude.{ℕ, ◌&&◌, Bool, List, false}
 use Rattle.plug_psi.specs.InForce.{pat_of}
 use Rattle.named_services.specs.NamedServices.{are_unknown, services_after}
 use Rattle.named_services.specs.declared.service_word.ServiceWord.{ServiceWord}

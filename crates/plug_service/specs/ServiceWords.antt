@@ -1,6 +1,6 @@
 -- The options of `zap` and `svremove`, and their settings from the values.
 -- This project's own rule.
-use Rattle.std.specs.Prelude.{◌==◌, List, [], ◌∷◌, codes, length, nat_le, not}
+use Rattle.std.specs.Prelude.{ℕ, ◌==◌, List, [], ◌∷◌, codes, length, nat_le, not}
 use Rattle.clap.specs.Walk.{Row}
 use Rattle.plugin_options.specs.Forms.{known}
 use Rattle.plugin_options.specs.Options.{OptionRow, flag, has_flag, operands, values_of}
