@@ -104,4 +104,11 @@ pub note-requires-in-Monitor : goal.note-requires-in-Monitor
 note-requires-in-Monitor c = rw c.in-Monitor.is at c.requires
 
 pub returns-in-Monitor : goal.returns-in-Monitor
-returns-in-Monitor c = rw c.in-Monitor.is c.note-in-Monitor.ensures
+returns-in-Monitor c = rw c.in-Monitor.is (record {
+  gives = c.note-in-Monitor.ensures.gives;
+  same_rule = c.note-in-Monitor.ensures.same_rule;
+  same_preallocated = c.note-in-Monitor.ensures.same_preallocated;
+  room = c.note-in-Monitor.ensures.room;
+  same_silent = refl;
+  silent = λ silent. absurd (both_ways false refl silent);
+})

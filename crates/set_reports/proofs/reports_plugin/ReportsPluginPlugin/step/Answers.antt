@@ -110,4 +110,11 @@ pub step-requires-in-Monitor : goal.step-requires-in-Monitor
 step-requires-in-Monitor c = rw c.in-Monitor.is at c.requires
 
 pub returns-in-Monitor : goal.returns-in-Monitor
-returns-in-Monitor c = rw c.in-Monitor.is c.step-in-Monitor.ensures
+returns-in-Monitor c = rw c.in-Monitor.is (record {
+  tells = c.step-in-Monitor.ensures.tells;
+  meets = c.step-in-Monitor.ensures.meets;
+  same_rule = c.step-in-Monitor.ensures.same_rule;
+  same_preallocated = c.step-in-Monitor.ensures.same_preallocated;
+  room = c.step-in-Monitor.ensures.room;
+  same_silent = refl;
+})
