@@ -1,5 +1,4 @@
 -- Written by tools/plugins from plugins.txt.
-use Rattle.std.proofs.Common.{refl}
 use Rattle.plugin_set.proofs.some_plugin.SomePluginPlugin.step.Goals as goal
 
 pub step-requires : goal.step-requires
@@ -18,11 +17,4 @@ pub step-requires-in-Tables : goal.step-requires-in-Tables
 step-requires-in-Tables c = rw c.in-Tables.is at c.requires
 
 pub returns-in-Tables : goal.returns-in-Tables
-returns-in-Tables c = rw c.in-Tables.is (record {
-  tells = c.step-in-Tables.ensures.tells;
-  meets = c.step-in-Tables.ensures.meets;
-  same_rule = c.step-in-Tables.ensures.same_rule;
-  room = c.step-in-Tables.ensures.room;
-  same_preallocated = refl;
-  same_silent = refl;
-})
+returns-in-Tables c = rw c.in-Tables.is c.step-in-Tables.ensures
