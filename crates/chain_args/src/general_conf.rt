@@ -29,7 +29,7 @@ pub struct GeneralConf {
     /// ends with exit number 9 then, in the place of 0.
     pub fail_on_faults: bool,
     /// Whether each line of the report is printed soon after its packet was written, in the order of packets, and not after the
-    /// run; the chain then runs in one thread.
+    /// run; all stages but the input then run in one thread.
     pub live: bool,
     /// How many threads serve the stages of the chain; `Auto` where it is not given.
     pub threads: StageThreads,

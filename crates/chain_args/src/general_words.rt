@@ -121,7 +121,7 @@ static GENERAL: [OptionRow; 12] = [
         word: OptionWord::Flag("live"),
         text: OptionText {
             value: "",
-            meaning: "each line of the report is printed soon after its packet was written, in the order of packets, and the summaries after the end; the chain runs in one thread, whatever --threads says",
+            meaning: "each line of the report is printed soon after its packet was written, in the order of packets, and the summaries after the end; all stages but the input then run in one thread",
             need: Need::Free,
             beside: Beside::Any,
         },

@@ -18,6 +18,6 @@ mod waiting_lines;
 pub use laws::{a_round_tells_nothing, nothing_is_told_at_first, what_was_told_is_right};
 pub use line_texts::LineTexts;
 pub use live_run::{LiveEnd, run_live};
-pub use printing::{Printing, printing_well};
+pub use printing::{Printing, print_lines, printing_well};
 pub use taking::take_told;
 pub use waiting_lines::WaitingLines;

@@ -38,7 +38,7 @@ fn is_over(printing: &Printing) -> bool
 }
 
 /// Prints the lines that wait at the desk, unless printing is over, and takes them in any case.
-pub(crate) fn print_lines<D: Desk, L: LineTexts>(
+pub fn print_lines<D: Desk, L: LineTexts>(
     alloc: Global,
     texts: &L,
     printing: &mut Printing,

@@ -4,6 +4,7 @@ ghost use Rattle.chain_tells.specs.Waiting.{told_rows, IsNextRow, comes_first_of
 
 use crate::line_row::LineRow;
 use chain_rounds::ToldLine;
+use plugin_trait::Line;
 use std::alloc::{AllocError, Global};
 use std::collections::VecDeque;
 
@@ -68,16 +69,28 @@ fn add_rows(alloc: Global, rows: &mut Vec<LineRow>, plugins: usize) -> Result<()
 }
 
 impl WaitingLines {
-    ghost use Rattle.std.specs.Prelude.{◌≡◌, ◌<◌, [], ◌∷◌, length, true, false, IfSome, IfNone, IfOk};
+    ghost use Rattle.std.specs.Prelude.{◌≡◌, ◌<◌, [], ◌∷◌, length, slice_set, true, false, IfSome, IfNone, IfOk};
     ghost use Rattle.chain_tells.specs.Waiting.{waiting};
+    ghost use Rattle.chain_tells.specs.declared.line_row.LineRow.{LineRow};
 
     /// For a chain of so many plugins; no line waits.
-    pub(crate) fn new(alloc: Global, plugins: usize) -> Result<WaitingLines, AllocError>
+    pub fn new(alloc: Global, plugins: usize) -> Result<WaitingLines, AllocError>
         ensures { IfOk result (λ lines. length lines.rows.items ≡ plugins) }
     {
         let mut rows = Vec::new(alloc);
         add_rows(alloc, &mut rows, plugins)?;
         Ok(WaitingLines { rows })
+    }
+
+    /// Puts lines of the plugin after so many others into its row, in the place of those that waited there.
+    pub fn put(&mut self, plugin: usize, lines: Vec<Line>)
+        requires { plugin < length self.old.rows.items }
+        ensures { (row : LineRow) × (row.lines.items ≡ lines.items)
+            × (self.new.rows.items ≡ slice_set self.old.rows.items plugin row) }
+    {
+        self.rows[plugin] = LineRow {
+            lines: VecDeque::from_vec(lines),
+        };
     }
 
     /// Whether no line waits.

@@ -11,7 +11,7 @@ use crate::call_notes::PluginNotes;
 use crate::driver::Driver;
 use crate::finishing::{finish, finish_live};
 use crate::in_threads::run_in_threads;
-use crate::live_run::run_printing;
+use crate::live_run::{run_printing, run_printing_apart};
 use crate::one_thread::run_in_one_thread;
 use crate::opened_call::OpenedCall;
 use crate::status::Status;
@@ -46,7 +46,8 @@ use ts_outside::{Desk, Gate};
 /// Each stage of the chain has a thread of its own where the program may use two processors and the words do not ask for one
 /// thread; else one thread serves all stages. The runtime starts the threads and waits for them.
 ///
-/// Where the words ask for it (`--live`), one thread serves all stages, and each line of a plugin is reported soon after its packet
+/// Where the words ask for it (`--live`), the input has a thread of its own, where the others would, and one thread serves all other
+/// stages; and each line of a plugin is reported soon after its packet
 /// was written, in the order of packets, before the ends are closed; the summaries and the end line are reported after that. Where
 /// memory runs out for the rest of such a report, its first lines stand reported, and the status is `NoMemory`.
 pub fn tsp_call<R: Threads + Wait + Sync, D: Desk, G: Gate>(
@@ -190,11 +191,14 @@ fn run_plan<R: Threads + Wait + Sync, D: Desk, G: Gate>(
     ensures { CallsPlan plan.now (D.seen desk.old) (D.seen desk.new) result }
 {
     if plan.general.live {
-        return run_plan_live(alloc, plan, desk, gate, notes);
+        return match driver {
+            Driver::InOneThread => run_plan_live(alloc, plan, desk, gate, notes),
+            _ => run_plan_live_apart(rt, alloc, plan, desk, gate, notes),
+        };
     }
     match driver {
-        Driver::InThreads => run_plan_in_threads(rt, alloc, plan, desk, gate, notes),
         Driver::InOneThread => run_plan_in_one_thread(alloc, plan, desk, gate, notes),
+        _ => run_plan_in_threads(rt, alloc, plan, desk, gate, notes),
     }
 }
 
@@ -230,6 +234,29 @@ fn run_plan_live<D: Desk, G: Gate>(
     match begin_plan(alloc, desk, plan, Driver::InOneThread) {
         Ok(OpenedCall { core, stages }) => {
             let run = run_printing(alloc, stages, &core, gate, plan, desk);
+            notes.note_idle(run.end.plugins.as_slice());
+            finish_live(alloc, desk, plan, run, notes)
+        }
+        Err(status) => status,
+    }
+}
+
+/// The call of a plan with a thread for the input whose lines are printed while it goes, and what is noted of its plugins.
+fn run_plan_live_apart<R: Threads + Wait + Sync, D: Desk, G: Gate>(
+    rt: &R,
+    alloc: Global,
+    plan: &Plan,
+    desk: &mut D,
+    gate: &G,
+    notes: &mut PluginNotes,
+) -> Status
+    requires valid { IsValidPlan plan.now }
+    requires live { plan.now.general.live ≡ true }
+    ensures { CallsPlan plan.now (D.seen desk.old) (D.seen desk.new) result }
+{
+    match begin_plan(alloc, desk, plan, Driver::InputApart) {
+        Ok(OpenedCall { core, stages }) => {
+            let run = run_printing_apart(rt, alloc, stages, &core, gate, plan, desk);
             notes.note_idle(run.end.plugins.as_slice());
             finish_live(alloc, desk, plan, run, notes)
         }

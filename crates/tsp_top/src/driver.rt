@@ -11,6 +11,8 @@ use std::thread::{Threads, available_parallelism};
 pub(crate) enum Driver {
     /// A thread for each stage.
     InThreads,
+    /// A thread for the input, and the caller's for all other stages, whose lines are printed while they run.
+    InputApart,
     /// The caller's thread, all of them.
     InOneThread,
 }
@@ -24,6 +26,10 @@ const BATCH_IN_THREADS: u64 = 2048;
 
 /// How many batches the buffer has where each stage has a thread, so that they have some to work on at once.
 const BATCHES_IN_THREADS: u64 = 4;
+
+/// How many packets a stage takes at a time where the input alone has a thread of its own. A round of the others gives two
+/// batches, whose lines are one report, which is to fit into a pipe.
+const BATCH_APART: u64 = 512;
 
 impl Driver {
     /// The driver for the processors on which the program may run. Where the system does not say how many there are,
@@ -56,6 +62,7 @@ impl Driver {
     {
         match self {
             Driver::InThreads => BATCH_IN_THREADS,
+            Driver::InputApart => BATCH_APART,
             Driver::InOneThread => MOST_AT_A_TIME as u64,
         }
     }
@@ -67,7 +74,7 @@ impl Driver {
         ensures bound { result ≤ default_buffer }
     {
         match self {
-            Driver::InThreads => BATCHES_IN_THREADS * BATCH_IN_THREADS,
+            Driver::InThreads | Driver::InputApart => BATCHES_IN_THREADS * BATCH_IN_THREADS,
             Driver::InOneThread => MOST_AT_A_TIME as u64,
         }
     }

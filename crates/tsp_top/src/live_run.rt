@@ -1,4 +1,4 @@
-//! The run of a plan in one thread whose lines are printed while it goes.
+//! The run of a plan whose lines are printed while it goes.
 ghost use Rattle.std.specs.Prelude.{◌≡◌, ◌≤◌, ◌&&◌, not, vec_len};
 ghost use Rattle.chain_core.specs.CoreNumbers.{IsValidPlan};
 ghost use Rattle.plugin_trait.specs.HeardStands.{HeardStands};
@@ -11,10 +11,14 @@ use crate::one_thread::MOST_AT_A_TIME;
 use crate::told_texts::PluginTexts;
 use chain_args::Plan;
 use chain_core::CorePlan;
+use chain_live_threads::run_apart;
 use chain_run::{RunEnd, Stages};
 use chain_tells::{LiveEnd, printing_well, run_live};
 use plugin_trait::Plugin;
 use std::alloc::Global;
+use std::marker::{Send, Sync};
+use std::sync::Wait;
+use std::thread::Threads;
 use ts_outside::{Desk, Gate, Sink, Source};
 
 /// What was printed of a run while it went.
@@ -61,6 +65,64 @@ pub(crate) fn run_printing<S: Source, K: Sink, P: Plugin, D: Desk, G: Gate>(
     };
     let mut printing = printing_well();
     let LiveEnd { end, all_told } = run_live(
+        alloc,
+        stages,
+        core,
+        &sizes,
+        gate,
+        &texts,
+        &mut printing,
+        desk,
+    );
+    let whole = is_whole(all_told, printing.wants);
+    PrintedRun {
+        end,
+        printed: Printed {
+            failed: printing.failed,
+            whole,
+        },
+    }
+}
+
+/// Runs the chain of a plan, its input in a thread of its own and its other stages in turn in the caller's, and returns its parts.
+/// The lines are printed as in one thread.
+///
+/// `closed` is `AllocError` where memory ran out for the run; then nothing was done. It may wait; no clause says that it returns.
+pub(crate) fn run_printing_apart<R, S, K, P, D, G>(
+    rt: &R,
+    alloc: Global,
+    stages: Stages<S, K, P>,
+    core: &CorePlan,
+    gate: &G,
+    plan: &Plan,
+    desk: &mut D,
+) -> PrintedRun<S, K, P>
+where
+    R: Threads + Wait + Sync,
+    S: Source + Send,
+    K: Sink + Send,
+    P: Plugin + Send,
+    D: Desk,
+    G: Gate,
+    requires every { 1 ≤ stages.stuffing.every }
+    requires unused { IsUnused stages.input }
+    requires valid { IsValidPlan core.now }
+    requires plugins { core.now.plugins ≡ vec_len stages.plugins }
+    requires fresh { AreFresh (HeardStands P.rule P.stands_for) stages.plugins.items }
+    ensures { EndsLive (seeing S.seen K.seen P.rule P.stands_for P.preallocated)
+        plan.now stages.stuffing core.now stages.input result.end.input
+        stages.plugins.items result.end.plugins.items stages.output result.end.output
+        (D.seen desk.old) (D.seen desk.new) result.printed.failed result.printed.whole result.end.closed }
+{
+    let sizes = [core.most.min(MOST_AT_A_TIME) as u32];
+    let bare = plan.general.bare;
+    let texts = PluginTexts {
+        bare,
+        items: plan.plugins.as_slice(),
+    };
+    let mut printing = printing_well();
+    let LiveEnd { end, all_told } = run_apart(
+        rt,
         alloc,
         stages,
         core,

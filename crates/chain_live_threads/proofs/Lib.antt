@@ -1,0 +1,11 @@
+mod Carries
+mod ServeLemmas
+mod NoteLemmas
+mod ToldLemmas
+mod RowLemmas
+mod WentLemmas
+mod AllLemmas
+mod SeatLemmas
+mod EndLemmas
+mod RestLemmas
+mod LastLemmas
