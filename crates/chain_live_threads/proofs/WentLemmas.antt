@@ -21,6 +21,7 @@ use Rattle.chain_run.specs.Runs.{RunStart, told_to}
 use Rattle.chain_run.specs.Ran.{IsValidRun}
 use Rattle.chain_tells.specs.Taking.{met_in}
 use Rattle.chain_tells.specs.Live.{lines_of_rows, HeardRows}
+use Rattle.chain_tells.specs.declared.printing.Printing.{Printing}
 use Rattle.chain_tells.proofs.MetLemmas.{written-is, met-enough, met-stays, given-stays}
 use Rattle.window_ring.specs.declared.ring.Ring.{Ring}
 use Rattle.window_ring.specs.Seats.{seen_of, key_of, table_of}
@@ -29,6 +30,7 @@ use Rattle.chain_threads.specs.Driving.{AreBeside}
 use Rattle.chain_threads.specs.RunLaws.{RunLaws}
 use Rattle.chain_threads.proofs.Carries.{each_at}
 use Rattle.chain_live_threads.specs.declared.live_stage.LiveStage.{LiveStage}
+use Rattle.chain_live_threads.specs.declared.telling.Telling.{Telling}
 use Rattle.chain_live_threads.specs.Serving.{Serves, HasSeenMore, Keeps}
 use Rattle.chain_live_threads.specs.Marking.{IsSameBesidesPart}
 use Rattle.chain_live_threads.specs.Rows.{AreReady, Carried}
@@ -263,6 +265,20 @@ module _ {S K P L : Type 0} (see : Seeing S K P) (ring : Ring) (hears : L → L 
       tells = tells-carried see begun base (table_of ring) plugins name_of laws told (lines_of_rows t.rows) row t.tells ring refl e new c;
     };
   }
+
+-- the same of values that are equal
+module _ {S K P D : Type 0} (see : Seeing S K P) (ring : Ring) (hears : Printing × D → Printing × D → List ToldLine → Type 0) where
+  pub went-by : (row row2 : List (LiveStage S K P)) → row ≡ row2 → (new new2 : List (LiveStage S K P)) → new ≡ new2
+      → (was was2 : Telling) → was ≡ was2 → (now now2 : Telling) → now ≡ now2 → (desk desk2 : D) → desk ≡ desk2 → (left left2 : D) → left ≡ left2
+      → RowWent see ring hears (was.printing, desk) (now.printing, left) was.told now.told row new
+      → RowWent see ring hears (was2.printing, desk2) (now2.printing, left2) was2.told now2.told row2 new2
+  went-by row row2 is_row new new2 is_new was was2 is_was now now2 is_now desk desk2 is_desk left left2 is_left went =
+      subst (λ (l : List (LiveStage S K P)). RowWent see ring hears (was2.printing, desk2) (now2.printing, left2) was2.told now2.told l new2) is_row
+      (subst (λ (l : List (LiveStage S K P)). RowWent see ring hears (was2.printing, desk2) (now2.printing, left2) was2.told now2.told row l) is_new
+      (subst (λ (t : Telling). RowWent see ring hears (t.printing, desk2) (now2.printing, left2) t.told now2.told row new) is_was
+      (subst (λ (t : Telling). RowWent see ring hears (was.printing, desk2) (t.printing, left2) was.told t.told row new) is_now
+      (subst (λ (d : D). RowWent see ring hears (was.printing, d) (now.printing, left2) was.told now.told row new) is_desk
+      (subst (λ (d : D). RowWent see ring hears (was.printing, desk) (now.printing, d) was.told now.told row new) is_left went)))))
 
 -- ---- after lines were taken away, or could not be
 

@@ -39,13 +39,13 @@ returns-in_err-mark-clause-keeps g t c = λ begun base table s.
     (c.mark.ensures.serves begun base table j (plugin-at see begun base table row j d s (omega arith)) (serves-at see begun base table row j d s (omega arith))))
 
 pub offset_bounds-row-plugin : goal.offset_bounds-row-plugin
-offset_bounds-row-plugin g t c = ?
+offset_bounds-row-plugin g t c = omega arith
 
 pub offset_bounds-row-plugin-2 : goal.offset_bounds-row-plugin-2
 offset_bounds-row-plugin-2 g t c = ?
 
 pub take_after-requires : goal.take_after-requires
-take_after-requires g t c =
+take_after-requires g t c = λ κs within.
     let see = (seeing g.S.Source.seen g.K.Sink.seen g.P.Plugin.rule g.P.Plugin.stands_for g.P.Plugin.preallocated) in let r = c.requires.serves in let row = c.args.row.now in let j = c.args.plugin in let d = c.index-row-plugin.result in
     record {
       serves = (
