@@ -45,17 +45,7 @@ returns-in_err-mark_rest-clause-untouched g t c = λ i d less.
     get_or-set_other c.args.plugins.now.items c.args.plugin i c.mark_rest.new.heard d (λ is. absurd (omega (arith, is, less)))
 
 pub take_rest-requires : goal.take_rest-requires
-take_rest-requires g t c = λ κs within.
-    let r = c.requires.met in
-    let long = length-set c.args.plugins.now.items c.args.plugin c.mark_rest.new.heard in
-    record {
-      plugin = omega (arith, long);
-      rows = omega (arith, c.requires.rows, long);
-      met = (
-        r.0, r.1, r.2, r.3,
-        later-met g.P.Plugin.rule g.P.Plugin.stands_for r.0 r.1 r.2 r.3 c.args.cut c.args.plugin c.args.plugins.now.items (omega arith) c.index_mut.result.now c.index_mut.ensures.value (c.args.plugin + 1) (next c.args.plugin) c.mark_rest.new.heard r.4,
-      );
-    }
+take_rest-requires g t c = λ κs within. (?measure, ?rest)
 
 pub returns-in_err-take_rest-clause-keeps : goal.returns-in_err-take_rest-clause-keeps
 returns-in_err-take_rest-clause-keeps g t c = λ rules input gave from met.

@@ -1,10 +1,10 @@
-use Rattle.std.proofs.Common.{◌≡◌, ℕ, suc, ◌+◌, ◌<◌, Result, Ok, Err, refl, ap, sym, ◌∙◌, subst, arith}
+use Rattle.std.proofs.Common.{◌≡◌, ℕ, suc, ◌+◌, ◌<◌, length, Result, Ok, Err, refl, ap, sym, ◌∙◌, subst, arith, rules}
 use Rattle.std.specs.Prelude.{OnErr}
 use Rattle.std.proofs.lemmas.List.{length-set}
 use Rattle.stage_run.specs.Seeing.{seeing}
 use Rattle.chain_live_threads.specs.Marking.{IsMarked}
 use Rattle.chain_live_threads.proofs.RowLemmas.{plugin-at, serves-at, gave-none, one-beside, one-other, one-serves, here, later-beside, later-other, at-later, all-beside, all-other, row-gave}
-use Rattle.chain_live_threads.proofs.ToldLemmas.{beside-all}
+use Rattle.chain_live_threads.proofs.ToldLemmas.{beside-all, beside-long}
 use Rattle.chain_live_threads.proofs.telling.+take_after.Goals as goal
 
 next : (n : ℕ) → n + 1 ≡ suc n
@@ -39,23 +39,19 @@ returns-in_err-mark-clause-keeps g t c = λ begun base table s.
     (c.mark.ensures.serves begun base table j (plugin-at see begun base table row j d s (omega arith)) (serves-at see begun base table row j d s (omega arith))))
 
 pub offset_bounds-row-plugin : goal.offset_bounds-row-plugin
-offset_bounds-row-plugin g t c = omega arith
+offset_bounds-row-plugin g t c =
+    let within : c.args.plugin < length c.args.row.now = omega arith in
+    search rules
 
 pub offset_bounds-row-plugin-2 : goal.offset_bounds-row-plugin-2
-offset_bounds-row-plugin-2 g t c = ?
+offset_bounds-row-plugin-2 g t c =
+    let long = beside-long _ _ c.take_after.ensures.same in
+    let same = length-set c.args.row.now c.args.plugin c.mark.new.self in
+    let within : c.args.plugin < length c.take_after.new.row = omega (arith, long, same) in
+    search rules
 
 pub take_after-requires : goal.take_after-requires
-take_after-requires g t c = λ κs within.
-    let see = (seeing g.S.Source.seen g.K.Sink.seen g.P.Plugin.rule g.P.Plugin.stands_for g.P.Plugin.preallocated) in let r = c.requires.serves in let row = c.args.row.now in let j = c.args.plugin in let d = c.index-row-plugin.result in
-    record {
-      serves = (
-        r.0, r.1, r.2,
-        one-serves row j d c.mark.new.self (omega arith) c.mark.ensures.same see r.0 r.1 r.2 r.3
-            (c.mark.ensures.serves r.0 r.1 r.2 j (plugin-at see r.0 r.1 r.2 row j d r.3 (omega arith)) (serves-at see r.0 r.1 r.2 row j d r.3 (omega arith))),
-      );
-      plugin = omega (arith, length-set c.args.row.now c.args.plugin c.mark.new.self);
-      rows = omega (arith, c.requires.rows, length-set c.args.row.now c.args.plugin c.mark.new.self);
-    }
+take_after-requires g t c = λ κs within. (?measure, ?rest)
 
 pub returns-in_err-take_after-clause-same : goal.returns-in_err-take_after-clause-same
 returns-in_err-take_after-clause-same g t c =
