@@ -1,4 +1,4 @@
-use Rattle.std.proofs.Common.{◌≡◌, ℕ, suc, ◌+◌, ◌<◌, List, map, drop, Result, Ok, Err, refl, ap, sym, ◌∙◌, subst, arith}
+use Rattle.std.proofs.Common.{◌≡◌, ℕ, suc, ◌+◌, ◌<◌, List, length, map, drop, rules, Result, Ok, Err, refl, ap, sym, ◌∙◌, subst, arith}
 use Rattle.std.specs.Prelude.{OnErr, slice_set}
 use Rattle.std.proofs.lemmas.List.{length-set, get_or-set_other}
 use Rattle.chain_model.specs.StageLists.{stage_list}
@@ -45,7 +45,28 @@ returns-in_err-mark_rest-clause-untouched g t c = λ i d less.
     get_or-set_other c.args.plugins.now.items c.args.plugin i c.mark_rest.new.heard d (λ is. absurd (omega (arith, is, less)))
 
 pub take_rest-requires : goal.take_rest-requires
-take_rest-requires g t c = λ κs within. (?measure, ?rest)
+take_rest-requires g t c = λ κs within.
+    let r = c.requires.met in
+    let plugins = c.args.plugins.now.items in
+    let j = c.args.plugin in
+    let long = length-set plugins j c.mark_rest.new.heard in
+    let more : j < length plugins = omega arith in
+    (
+      omega (arith, more, long, c.decreases),
+      (
+        search rules,
+        (
+          omega (arith, more, long),
+          (
+            omega (arith, c.requires.rows, long),
+            (
+              r.0, r.1, r.2, r.3,
+              later-met g.P.Plugin.rule g.P.Plugin.stands_for r.0 r.1 r.2 r.3 c.args.cut j plugins more c.index_mut.result.now c.index_mut.ensures.value (j + 1) (next j) c.mark_rest.new.heard r.4,
+            ),
+          ),
+        ),
+      ),
+    )
 
 pub returns-in_err-take_rest-clause-keeps : goal.returns-in_err-take_rest-clause-keeps
 returns-in_err-take_rest-clause-keeps g t c = λ rules input gave from met.

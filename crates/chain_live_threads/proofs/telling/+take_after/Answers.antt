@@ -51,7 +51,30 @@ offset_bounds-row-plugin-2 g t c =
     search rules
 
 pub take_after-requires : goal.take_after-requires
-take_after-requires g t c = λ κs within. (?measure, ?rest)
+take_after-requires g t c = λ κs within.
+    let see = (seeing g.S.Source.seen g.K.Sink.seen g.P.Plugin.rule g.P.Plugin.stands_for g.P.Plugin.preallocated) in let r = c.requires.serves in let row = c.args.row.now in let j = c.args.plugin in let d = c.index-row-plugin.result in
+    let long = length-set row j c.mark.new.self in
+    let more : j + 1 < length row = omega arith in
+    (
+      omega (arith, more, long, c.decreases),
+      (
+        within.0,
+        (
+          within.1.0,
+          (
+            within.1.1,
+            (
+              (
+                r.0, r.1, r.2,
+                one-serves row j d c.mark.new.self more c.mark.ensures.same see r.0 r.1 r.2 r.3
+                    (c.mark.ensures.serves r.0 r.1 r.2 j (plugin-at see r.0 r.1 r.2 row j d r.3 more) (serves-at see r.0 r.1 r.2 row j d r.3 more)),
+              ),
+              (omega (arith, more, long), omega (arith, c.requires.rows, long)),
+            ),
+          ),
+        ),
+      ),
+    )
 
 pub returns-in_err-take_after-clause-same : goal.returns-in_err-take_after-clause-same
 returns-in_err-take_after-clause-same g t c =
