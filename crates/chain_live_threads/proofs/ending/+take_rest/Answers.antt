@@ -50,8 +50,7 @@ take_rest-requires g t c = λ κs within.
     let plugins = c.args.plugins.now.items in
     let j = c.args.plugin in
     let long = length-set plugins j c.mark_rest.new.heard in
-    let more : j < length plugins = omega arith in
-    (
+    let more : j < length plugins = omega arith in (
       omega (arith, more, long, c.decreases),
       (
         search rules,
@@ -60,7 +59,10 @@ take_rest-requires g t c = λ κs within.
           (
             omega (arith, c.requires.rows, long),
             (
-              r.0, r.1, r.2, r.3,
+              r.0,
+              r.1,
+              r.2,
+              r.3,
               later-met g.P.Plugin.rule g.P.Plugin.stands_for r.0 r.1 r.2 r.3 c.args.cut j plugins more c.index_mut.result.now c.index_mut.ensures.value (j + 1) (next j) c.mark_rest.new.heard r.4,
             ),
           ),

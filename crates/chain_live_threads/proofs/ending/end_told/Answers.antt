@@ -46,9 +46,13 @@ tell_rest-all_told-requires-clause-met g c = λ κs within.
     let begun = told_to (began_with see r.0 r.1 r.2 r.3 r.4) (λ _. told) in
     let has = c.together.ensures.closed begun (key_of ring).base (table_of ring) c.args.seats.items c.args.parts.items c.close-closed.result r.6
     (subst (λ k. ClosedOf k c.args.seats.items c.close-closed.result) (key-is ring begun r.5) c.close-closed.ensures) in
-    let closes = c.any_run.ensures.told r.0 c.take_apart-input.result.input r.1 r.2 c.take_apart-input.result.plugins.items r.3 c.take_apart-input.result.output r.4 c.close-closed.result c.args.parts.items (λ _. told) has c.take_apart-input.ensures in
-    (map (heard_rule see) r.2, closes.run.list, closes.run.gave, told,
-    of-one see told (map (heard_rule see) r.2) closes.run.list closes.run.gave c.close-closed.result.cut 0 c.take_apart-input.result.plugins.items closes.run.met)
+    let closes = c.any_run.ensures.told r.0 c.take_apart-input.result.input r.1 r.2 c.take_apart-input.result.plugins.items r.3 c.take_apart-input.result.output r.4 c.close-closed.result c.args.parts.items (λ _. told) has c.take_apart-input.ensures in (
+      map (heard_rule see) r.2,
+      closes.run.list,
+      closes.run.gave,
+      told,
+      of-one see told (map (heard_rule see) r.2) closes.run.list closes.run.gave c.close-closed.result.cut 0 c.take_apart-input.result.plugins.items closes.run.met,
+    )
 
 pub returns-clause-closed : goal.returns-clause-closed
 returns-clause-closed g c = λ plugins name_of from stuffing met_none to plan first is ended t.

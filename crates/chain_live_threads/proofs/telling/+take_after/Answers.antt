@@ -54,8 +54,7 @@ pub take_after-requires : goal.take_after-requires
 take_after-requires g t c = λ κs within.
     let see = (seeing g.S.Source.seen g.K.Sink.seen g.P.Plugin.rule g.P.Plugin.stands_for g.P.Plugin.preallocated) in let r = c.requires.serves in let row = c.args.row.now in let j = c.args.plugin in let d = c.index-row-plugin.result in
     let long = length-set row j c.mark.new.self in
-    let more : j + 1 < length row = omega arith in
-    (
+    let more : j + 1 < length row = omega arith in (
       omega (arith, more, long, c.decreases),
       (
         within.0,
@@ -65,7 +64,9 @@ take_after-requires g t c = λ κs within.
             within.1.1,
             (
               (
-                r.0, r.1, r.2,
+                r.0,
+                r.1,
+                r.2,
                 one-serves row j d c.mark.new.self more c.mark.ensures.same see r.0 r.1 r.2 r.3
                     (c.mark.ensures.serves r.0 r.1 r.2 j (plugin-at see r.0 r.1 r.2 row j d r.3 more) (serves-at see r.0 r.1 r.2 row j d r.3 more)),
               ),
@@ -98,7 +99,10 @@ take_lines-taken-requires g t c =
     let e = c.index-row-plugin-2.result in
     record {
       plugin = (
-        r.0, r.1, r.2, j,
+        r.0,
+        r.1,
+        r.2,
+        j,
         at-later row j d c.mark.new.self (omega arith) c.mark.ensures.same c.take_after.new.row c.take_after.ensures.same c.take_after.ensures.untouched see r.0 r.1 r.2 e at,
         subst (IsMarked see r.0 r.1 r.2) (sym (here row j d c.mark.new.self (omega arith) c.mark.ensures.same c.take_after.new.row c.take_after.ensures.same c.take_after.ensures.untouched e))
             (c.in_ok-mark.ensures.marked r.0 r.1 r.2 j at (serves-at see r.0 r.1 r.2 row j d r.3 (omega arith))),

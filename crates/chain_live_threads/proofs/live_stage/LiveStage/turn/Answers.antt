@@ -24,31 +24,37 @@ returns-in-Busy g c =
     let see = (seeing g.S.Source.seen g.K.Sink.seen g.P.Plugin.rule g.P.Plugin.stands_for g.P.Plugin.preallocated) in
     let laws = c.run_laws.ensures in let ring = c.args.ring.now in let table = table_of ring in let me = c.args.self.now in
     let old = me.seat in let new = c.visit.new.seat in
-    record { keeps = keeps-of see ring me _ c.in-Busy.ensures.same_stage (λ begun base eq s.
-    let found = subst (λ key. HasVisited key old new me.done me.word (Busy c.in-Busy.holder)) eq c.in-Busy.ensures.visited in
-    after-held see begun base table laws old me.part me.done me.word me.over me.written c.requires.goes_on (standing-of see begun base table me c.requires.goes_on s) s.1.knows
-    new c.in-Busy.holder found.0 found.1 c.in-Busy.ensures.same_stage c.in-Busy.ensures.of_table) }
+    record {
+      keeps = keeps-of see ring me _ c.in-Busy.ensures.same_stage (λ begun base eq s.
+          let found = subst (λ key. HasVisited key old new me.done me.word (Busy c.in-Busy.holder)) eq c.in-Busy.ensures.visited in
+          after-held see begun base table laws old me.part me.done me.word me.over me.written c.requires.goes_on (standing-of see begun base table me c.requires.goes_on s) s.1.knows
+          new c.in-Busy.holder found.0 found.1 c.in-Busy.ensures.same_stage c.in-Busy.ensures.of_table);
+    }
 
 pub returns-then-is_some : goal.returns-then-is_some
 returns-then-is_some g c =
     let see = (seeing g.S.Source.seen g.K.Sink.seen g.P.Plugin.rule g.P.Plugin.stands_for g.P.Plugin.preallocated) in
     let laws = c.run_laws.ensures in let ring = c.args.ring.now in let table = table_of ring in let me = c.args.self.now in
     let old = me.seat in let new = c.visit.new.seat in
-    record { keeps = keeps-of see ring me _ c.in-Given.ensures.same_stage (λ begun base eq s.
-    let went : Went (key_at begun base) old new me.done me.word c.in-Given.news = subst (λ key. Went key old new me.done me.word c.in-Given.news) eq c.in-Given.ensures.visited in
-    after-end see begun base table laws old me.part me.done me.word me.over me.written c.requires.goes_on (standing-of see begun base table me c.requires.goes_on s) s.1.knows
-    new c.in-Given.news went c.in-Given.ensures.same_stage c.in-Given.ensures.of_table (is-there me.word.ended (sym c.is_some.ensures ∙ c.if-is_some.true))) }
+    record {
+      keeps = keeps-of see ring me _ c.in-Given.ensures.same_stage (λ begun base eq s.
+          let went : Went (key_at begun base) old new me.done me.word c.in-Given.news = subst (λ key. Went key old new me.done me.word c.in-Given.news) eq c.in-Given.ensures.visited in
+          after-end see begun base table laws old me.part me.done me.word me.over me.written c.requires.goes_on (standing-of see begun base table me c.requires.goes_on s) s.1.knows
+          new c.in-Given.news went c.in-Given.ensures.same_stage c.in-Given.ensures.of_table (is-there me.word.ended (sym c.is_some.ensures ∙ c.if-is_some.true)));
+    }
 
 pub returns-else-is_some : goal.returns-else-is_some
 returns-else-is_some g c =
     let see = (seeing g.S.Source.seen g.K.Sink.seen g.P.Plugin.rule g.P.Plugin.stands_for g.P.Plugin.preallocated) in
     let laws = c.run_laws.ensures in let ring = c.args.ring.now in let table = table_of ring in let me = c.args.self.now in
     let old = me.seat in let new = c.visit.new.seat in let w = c.work_in_hand-empty in
-    record { keeps = keeps-of see ring me _ (w.ensures.stage ∙ c.in-Given.ensures.same_stage) (λ begun base eq s.
-    let went : Went (key_at begun base) old new me.done me.word c.in-Given.news = subst (λ key. Went key old new me.done me.word c.in-Given.news) eq c.in-Given.ensures.visited in
-    after-work see begun base table laws old me.part me.done me.word me.over me.written c.requires.goes_on (standing-of see begun base table me c.requires.goes_on s) s.1.knows
-    new c.in-Given.news went c.in-Given.ensures.same_stage c.in-Given.ensures.of_table (still-open me.word.ended (sym c.is_some.ensures ∙ c.if-is_some.false))
-    w.new.seat w.new.part w.result.work w.ensures.works w.ensures.seat w.ensures.stage) }
+    record {
+      keeps = keeps-of see ring me _ (w.ensures.stage ∙ c.in-Given.ensures.same_stage) (λ begun base eq s.
+          let went : Went (key_at begun base) old new me.done me.word c.in-Given.news = subst (λ key. Went key old new me.done me.word c.in-Given.news) eq c.in-Given.ensures.visited in
+          after-work see begun base table laws old me.part me.done me.word me.over me.written c.requires.goes_on (standing-of see begun base table me c.requires.goes_on s) s.1.knows
+          new c.in-Given.news went c.in-Given.ensures.same_stage c.in-Given.ensures.of_table (still-open me.word.ended (sym c.is_some.ensures ∙ c.if-is_some.false))
+          w.new.seat w.new.part w.result.work w.ensures.works w.ensures.seat w.ensures.stage);
+    }
 
 pub work_in_hand-empty-requires-clause-stands : goal.work_in_hand-empty-requires-clause-stands
 work_in_hand-empty-requires-clause-stands g c κs within =
