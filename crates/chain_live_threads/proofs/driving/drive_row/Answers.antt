@@ -22,6 +22,16 @@ loop-preserved g c = (
   c.serve_and_tell.ensures.rows ∙ c.loop.invariant.3,
 )
 
+pub loop-preserved-in-Idle : goal.loop-preserved-in-Idle
+loop-preserved-in-Idle g c = (
+  search rules,
+  search rules,
+  went_then (seeing g.S.Source.seen g.K.Sink.seen g.P.Plugin.rule g.P.Plugin.stands_for g.P.Plugin.preallocated) c.args.ring.now (PrintsLines g.D.Desk.seen (g.L.LineTexts.text_of c.args.texts.now))
+      (c.args.telling.now.printing, c.args.desk.now) (c.loop.telling.printing, c.loop.desk) (c.serve_and_tell.new.telling.printing, c.serve_and_tell.new.desk) c.args.telling.now.told c.loop.telling.told c.serve_and_tell.new.telling.told
+      c.args.row.now c.loop.row c.serve_and_tell.new.row c.loop.invariant.2 c.serve_and_tell.ensures.went,
+  c.serve_and_tell.ensures.rows ∙ c.loop.invariant.3,
+)
+
 pub returns-in-Over-clause-went : goal.returns-in-Over-clause-went
 returns-in-Over-clause-went g c =
     went_then (seeing g.S.Source.seen g.K.Sink.seen g.P.Plugin.rule g.P.Plugin.stands_for g.P.Plugin.preallocated) c.args.ring.now (PrintsLines g.D.Desk.seen (g.L.LineTexts.text_of c.args.texts.now))

@@ -6,8 +6,8 @@ use Rattle.chain_live_threads.proofs.Carries.{over_beside}
 use Rattle.chain_live_threads.proofs.WentLemmas.{ready-row, went_round, went_then, went_ready}
 use Rattle.chain_live_threads.proofs.driving.serve_and_tell.Goals as goal
 
-pub serve_row-came-requires : goal.serve_row-came-requires
-serve_row-came-requires g c = record { ready = ready-row (seeing g.S.Source.seen g.K.Sink.seen g.P.Plugin.rule g.P.Plugin.stands_for g.P.Plugin.preallocated) c.args.ring.now c.args.telling.now.told c.args.row.now c.requires.ready }
+pub serve_row-came-requires-clause-ready : goal.serve_row-came-requires-clause-ready
+serve_row-came-requires-clause-ready g c = λ κs within. ready-row (seeing g.S.Source.seen g.K.Sink.seen g.P.Plugin.rule g.P.Plugin.stands_for g.P.Plugin.preallocated) c.args.ring.now c.args.telling.now.told c.args.row.now c.requires.ready
 
 pub tell-requires-clause-ready : goal.tell-requires-clause-ready
 tell-requires-clause-ready g c = λ κs within.

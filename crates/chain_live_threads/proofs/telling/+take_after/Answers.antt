@@ -1,10 +1,11 @@
 use Rattle.std.proofs.Common.{◌≡◌, ℕ, suc, ◌+◌, ◌<◌, length, Result, Ok, Err, refl, ap, sym, ◌∙◌, subst, arith, rules}
 use Rattle.std.specs.Prelude.{OnErr}
+use borrow.Author.Rules.{scaled_Fits}
 use Rattle.std.proofs.lemmas.List.{length-set}
 use Rattle.stage_run.specs.Seeing.{seeing}
 use Rattle.chain_live_threads.specs.Marking.{IsMarked}
 use Rattle.chain_live_threads.proofs.RowLemmas.{plugin-at, serves-at, gave-none, one-beside, one-other, one-serves, here, later-beside, later-other, at-later, all-beside, all-other, row-gave}
-use Rattle.chain_live_threads.proofs.ToldLemmas.{beside-all, beside-long}
+use Rattle.chain_live_threads.proofs.ToldLemmas.{beside-all}
 use Rattle.chain_live_threads.proofs.telling.+take_after.Goals as goal
 
 next : (n : ℕ) → n + 1 ≡ suc n
@@ -45,10 +46,8 @@ offset_bounds-row-plugin g t c =
 
 pub offset_bounds-row-plugin-2 : goal.offset_bounds-row-plugin-2
 offset_bounds-row-plugin-2 g t c =
-    let long = beside-long _ _ c.take_after.ensures.same in
-    let same = length-set c.args.row.now c.args.plugin c.mark.new.self in
-    let within : c.args.plugin < length c.take_after.new.row = omega (arith, long, same) in
-    search rules
+    let within : c.args.plugin < length c.args.row.now = omega arith in
+    search (scaled_Fits, within)
 
 pub take_after-requires : goal.take_after-requires
 take_after-requires g t c = λ κs within.

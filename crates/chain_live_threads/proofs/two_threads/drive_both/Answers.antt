@@ -22,7 +22,7 @@ on_both-requires-clause-back g c κs within = λ p q r is_row is_telling is_desk
     subst (λ (t : Telling). RowReady see c.args.ring.now t.told p.now) (sym is_telling) (subst (RowReady see c.args.ring.now c.args.telling.now.told) (sym is_row) c.requires.ready) in
     let rows : length q.now.lines.rows.items + 1 ≡ length p.now =
     subst (λ (t : Telling). length t.lines.rows.items + 1 ≡ length p.now) (sym is_telling) (subst (λ (l : List _). length c.args.telling.now.lines.rows.items + 1 ≡ length l) (sym is_row) c.requires.rows) in
-    ((ready, rows), (param_send 1 _ (arg_send _ no _ c.type_bounds.send-S), param_send 2 _ (arg_send _ no _ c.type_bounds.send-K), param_send 3 _ (arg_send _ no _ c.type_bounds.send-P), search rules, search rules))
+    ((ready, rows), (param_send 1 _ (arg_send _ no _ c.type_bounds.send-S), param_send 2 _ (arg_send _ no _ c.type_bounds.send-K), param_send 3 _ (arg_send _ no _ c.type_bounds.send-P), param_send 7 _ (arg_send _ no _ c.type_bounds.send-D-In), param_send 8 _ (arg_send _ no _ c.type_bounds.send-D-Out), search rules, search rules))
 
 pub returns-clause-went : goal.returns-clause-went
 returns-clause-went g c =
