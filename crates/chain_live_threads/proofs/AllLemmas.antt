@@ -13,7 +13,6 @@ use Rattle.chain_threads.proofs.Carries.{each_first}
 use Rattle.chain_live_threads.specs.declared.live_stage.LiveStage.{LiveStage}
 use Rattle.chain_live_threads.specs.Serving.{Serves}
 use Rattle.chain_live_threads.specs.Rows.{HaveEnded, AreReady, Carried}
-use Rattle.chain_live_threads.specs.RowTells.{RowHasTold}
 use Rattle.chain_live_threads.specs.RowTakes.{RowServes}
 use Rattle.chain_live_threads.specs.RowWent.{RowReady, RowWent}
 use Rattle.chain_live_threads.specs.AllWent.{after_first, AllServe, AllReady, AllWent}

@@ -1,5 +1,5 @@
 -- Stages that are driven in parts.
-use Rattle.std.proofs.Common.{◌≡◌, ℕ, zero, suc, ◌+◌, ◌<◌, List, [], ◌∷◌, ◌++◌, length, set, slice_index_or, refl, sym, ap, ◌∙◌, subst, arith, append_assoc, Bool, true, false, ◌&&◌}
+use Rattle.std.proofs.Common.{◌≡◌, List, [], ◌∷◌, ◌++◌, length, set, slice_index_or, refl, sym, ap, ◌∙◌, arith, append_assoc, Bool, true, false, ◌&&◌}
 use Rattle.cell_land.specs.declared.cell_window.Bases.{Bases}
 use Rattle.chain_core.specs.Machine.{Visit}
 use Rattle.stage_run.specs.Seeing.{Seeing}
@@ -9,7 +9,7 @@ use Rattle.window_ring.specs.declared.ring.Ring.{Ring}
 use Rattle.window_ring.specs.Seats.{seen_of, key_of, table_of}
 use Rattle.chain_threads.specs.Standing.{key_at}
 use Rattle.chain_threads.specs.Driving.{AreBeside}
-use Rattle.chain_threads.proofs.Carries.{each_first, each_rest, each_one, beside_both, beside_none, beside_one, beside_each}
+use Rattle.chain_threads.proofs.Carries.{each_first, each_rest, each_one, beside_both, beside_one}
 use Rattle.chain_live_threads.specs.declared.live_stage.LiveStage.{LiveStage}
 use Rattle.chain_live_threads.specs.Serving.{Serves, HasSeenMore, IsReady, Keeps}
 use Rattle.chain_live_threads.specs.Marking.{IsSameBesidesPart}

@@ -9,8 +9,7 @@ use Rattle.chain_model.specs.Apply.{StageList}
 use Rattle.chain_model.specs.PluginRule.{PluginRule}
 use Rattle.chain_model.specs.StageLists.{rule_after}
 use Rattle.chain_core.specs.declared.stage_end.StageEnd.{StageEnd}
-use Rattle.chain_core.specs.Numbers.{written_of}
-use Rattle.chain_core.specs.Machine.{ChainState, Visit, progress_of_stages}
+use Rattle.chain_core.specs.Machine.{ChainState, Visit}
 use Rattle.chain_core.specs.ChainRun.{ChainRun, state_after}
 use Rattle.plugin_trait.specs.PlacedLines.{placed_between}
 use Rattle.plugin_trait.specs.declared.line.Line.{Line}
@@ -26,11 +25,11 @@ use Rattle.chain_run.proofs.NumberLaws.{given-falls}
 use Rattle.chain_tells.specs.Taking.{met_in}
 use Rattle.chain_tells.proofs.MetLemmas.{written-is}
 use Rattle.window_ring.specs.Seats.{seen_of}
-use Rattle.chain_threads.specs.Standing.{key_at, Standing, Over, StandsAt, IsOver, gave_by, written_by}
+use Rattle.chain_threads.specs.Standing.{StandsAt, IsOver, gave_by, written_by}
 use Rattle.chain_threads.specs.RunLaws.{RunLaws}
 use Rattle.chain_live_threads.specs.declared.live_stage.LiveStage.{LiveStage}
 use Rattle.chain_live_threads.specs.Serving.{ServesBy, Serves}
-use Rattle.chain_live_threads.specs.Marking.{IsPluginAt, IsMarked, GaveLines}
+use Rattle.chain_live_threads.specs.Marking.{IsPluginAt, GaveLines}
 
 not-first : {A : Type 0} (k j : ℕ) → k ≡ suc j → 0 ≡ k → A
 not-first k j is zero = absurd (omega arith)

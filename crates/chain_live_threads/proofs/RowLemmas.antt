@@ -6,7 +6,6 @@ use Rattle.std.proofs.lemmas.List.{length-set, get_or-set_other}
 use Rattle.cell_land.specs.declared.cell_window.Bases.{Bases}
 use Rattle.atomic_table.specs.Seated.{TableId}
 use Rattle.ts_packet.specs.declared.cell.Cell.{Cell}
-use Rattle.chain_model.specs.Each.{Each}
 use Rattle.chain_model.specs.PluginRule.{PluginRule}
 use Rattle.chain_model.specs.StageLists.{rule_after}
 use Rattle.chain_core.specs.Machine.{Visit}
@@ -27,7 +26,7 @@ use Rattle.chain_threads.specs.Driving.{AreBeside}
 use Rattle.chain_threads.proofs.Carries.{each_at}
 use Rattle.chain_live_threads.specs.declared.live_stage.LiveStage.{LiveStage}
 use Rattle.chain_live_threads.specs.Serving.{Serves}
-use Rattle.chain_live_threads.specs.Marking.{IsSameBesidesPart, IsPluginAt, IsMarked, GaveLines, ServesTaken}
+use Rattle.chain_live_threads.specs.Marking.{IsSameBesidesPart, IsPluginAt, GaveLines, ServesTaken}
 use Rattle.chain_live_threads.specs.RowTells.{AreNumbered, seen_in_row, met_by}
 use Rattle.chain_live_threads.specs.RowTakes.{AllKnow, RowServes, RowGave}
 use Rattle.chain_live_threads.proofs.ToldLemmas.{any_default, set_same, seen-at, number-at, numbered-set, seen-set, beside-set, beside-more, beside-long, each-set, each-told, each-told-set, beside-numbers, placed-by-first}

@@ -1,5 +1,5 @@
 -- The stages of a run in two threads: their parts and seats put together, and taken apart again.
-use Rattle.std.proofs.Common.{◌≡◌, ℕ, zero, suc, ◌+◌, ◌<◌, ◌≤◌, List, [], ◌∷◌, None, ◌++◌, length, map, take, slice_index_or, refl, sym, ap, ◌∙◌, subst, arith, append-nil, true, false}
+use Rattle.std.proofs.Common.{◌≡◌, ℕ, zero, suc, ◌+◌, ◌<◌, ◌≤◌, List, [], ◌∷◌, None, ◌++◌, length, take, slice_index_or, refl, sym, ap, ◌∙◌, subst, arith, append-nil, true}
 use Rattle.std.proofs.lemmas.List.{length-map}
 use Rattle.cell_land.specs.declared.cell_window.Bases.{Bases}
 use Rattle.atomic_table.specs.Seated.{TableId}
@@ -10,7 +10,6 @@ use Rattle.chain_core.specs.Machine.{Visit}
 use Rattle.chain_core.specs.ChainRun.{state_after}
 use Rattle.stage_run.specs.Seeing.{Seeing}
 use Rattle.stage_run.specs.declared.stage_part.StagePart.{StagePart}
-use Rattle.chain_live.specs.LiveReports.{lines_to}
 use Rattle.chain_live.proofs.LineLaws.{only-met}
 use Rattle.chain_rounds.specs.Round.{AreNames}
 use Rattle.chain_rounds.specs.declared.told_line.ToldLine.{ToldLine}
@@ -33,7 +32,7 @@ use Rattle.chain_threads.proofs.SeatLemmas.{key-is, same_number}
 use Rattle.chain_live_threads.specs.declared.live_stage.LiveStage.{LiveStage}
 use Rattle.chain_live_threads.specs.Serving.{Serves}
 use Rattle.chain_live_threads.specs.Rows.{HaveEnded}
-use Rattle.chain_live_threads.specs.RowStages.{new_stage, seated, parts_of, seats_of}
+use Rattle.chain_live_threads.specs.RowStages.{seated, parts_of, seats_of}
 use Rattle.chain_live_threads.specs.RowTells.{AreNumbered, seen_in_row, met_by, RowHasTold}
 use Rattle.chain_live_threads.specs.RowTakes.{RowServes}
 use Rattle.chain_live_threads.specs.AllWent.{after_first, AllServe, AllWent}

@@ -1,11 +1,11 @@
 -- A stage that serves: after a visit, and after one that found the turn held.
-use Rattle.std.proofs.Common.{◌≡◌, ℕ, suc, List, [], ◌∷◌, ◌++◌, Option, Some, None, Bool, true, false, refl, sym, ap, ◌∙◌, subst}
+use Rattle.std.proofs.Common.{◌≡◌, ℕ, List, [], ◌∷◌, ◌++◌, None, Bool, true, false, refl, sym, ap, ◌∙◌, subst}
 use Rattle.std.specs.Prelude.{IsSome}
 use Rattle.cell_land.specs.declared.cell_window.Bases.{Bases}
 use Rattle.atomic_table.specs.Seated.{TableId}
 use Rattle.chain_core.specs.declared.news.News.{News}
 use Rattle.chain_core.specs.declared.stage_word.StageWord.{StageWord}
-use Rattle.chain_core.specs.Numbers.{written_of, news_of}
+use Rattle.chain_core.specs.Numbers.{written_of}
 use Rattle.chain_core.specs.Machine.{ChainState, Visit, progress_of_stages}
 use Rattle.chain_core.specs.ChainRun.{state_after}
 use Rattle.stage_run.specs.Seeing.{Seeing}
@@ -26,7 +26,7 @@ use Rattle.chain_threads.specs.RunLaws.{RunLaws}
 use Rattle.chain_threads.proofs.Numbers.{after-visit}
 use Rattle.chain_threads.proofs.TurnLemmas.{over-now, stands-now, stands-still, seen-still}
 use Rattle.chain_live_threads.specs.declared.live_stage.LiveStage.{LiveStage}
-use Rattle.chain_live_threads.specs.Serving.{ServesBy, Serves, HasSeenMore, IsReady, Keeps}
+use Rattle.chain_live_threads.specs.Serving.{Serves, HasSeenMore, IsReady, Keeps}
 
 not-both : {A : Type 0} (b : Bool) → b ≡ false → b ≡ true → A
 not-both b f t = absurd (let e : true ≡ false = sym t ∙ f in cc)

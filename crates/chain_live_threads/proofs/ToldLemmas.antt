@@ -1,5 +1,5 @@
 -- How far lines were taken away changes nothing else of a stage; and the rows of stages, by their places.
-use Rattle.std.proofs.Common.{◌≡◌, ◌≢◌, ℕ, zero, suc, ◌+◌, ◌<◌, ◌≤◌, List, [], ◌∷◌, ◌++◌, length, take, drop, refl, ap, sym, ◌∙◌, subst, arith, inl, inr}
+use Rattle.std.proofs.Common.{◌≡◌, ◌≢◌, ℕ, zero, suc, ◌+◌, ◌<◌, ◌≤◌, List, [], ◌∷◌, ◌++◌, length, take, drop, refl, ap, sym, ◌∙◌, arith, inl, inr}
 use Rattle.std.specs.Prelude.{slice_index_or, slice_set}
 use Rattle.std.proofs.lemmas.Bool.{cases_eq}
 use Rattle.std.proofs.lemmas.List.{take-take}
@@ -17,10 +17,10 @@ use Rattle.chain_run.specs.OneStage.{SoFarUpTo}
 use Rattle.chain_run.specs.Runs.{RunStart, told_to}
 use Rattle.chain_run.proofs.MarkLemmas.{doing-told, valid-told}
 use Rattle.window_ring.specs.Seats.{seen_of}
-use Rattle.chain_threads.specs.Standing.{key_at, StandsAt, IsOver, gave_by, written_by}
+use Rattle.chain_threads.specs.Standing.{StandsAt, IsOver, gave_by, written_by}
 use Rattle.chain_threads.specs.Driving.{AreBeside}
 use Rattle.chain_live_threads.specs.declared.live_stage.LiveStage.{LiveStage}
-use Rattle.chain_live_threads.specs.Serving.{ServesBy, Serves}
+use Rattle.chain_live_threads.specs.Serving.{Serves}
 use Rattle.chain_live_threads.specs.Marking.{IsSameBesidesPart}
 use Rattle.chain_live_threads.specs.RowTells.{AreNumbered, seen_in_row}
 

@@ -1,15 +1,13 @@
 -- What the stages after the input told so far stays right through a round, and grows where lines were taken away.
-use Rattle.std.proofs.Common.{◌≡◌, ℕ, zero, suc, ◌+◌, ◌<◌, ◌≤◌, List, [], ◌∷◌, ◌++◌, length, map, take, refl, ap, sym, ◌∙◌, subst, arith, append-nil}
+use Rattle.std.proofs.Common.{◌≡◌, ℕ, zero, suc, ◌<◌, ◌≤◌, List, [], ◌∷◌, ◌++◌, length, map, take, refl, ap, sym, ◌∙◌, subst, arith, append-nil}
 use Rattle.std.proofs.lemmas.List.{map-append, length-map}
 use Rattle.std.specs.Prelude.{slice_index_or}
 use Rattle.cell_land.specs.declared.cell_window.Bases.{Bases}
 use Rattle.atomic_table.specs.Seated.{TableId}
-use Rattle.ts_packet.specs.declared.cell.Cell.{Cell}
 use Rattle.chain_model.specs.Each.{Each}
 use Rattle.chain_model.specs.PluginRule.{PluginRule}
 use Rattle.chain_model.specs.Reports.{NamedRule, rules_of}
-use Rattle.chain_core.specs.declared.core_plan.CorePlan.{CorePlan}
-use Rattle.chain_core.specs.Machine.{ChainState, Visit}
+use Rattle.chain_core.specs.Machine.{Visit}
 use Rattle.chain_core.specs.ChainRun.{ChainRun, state_after}
 use Rattle.stage_run.specs.Seeing.{Seeing}
 use Rattle.chain_live.specs.LiveReports.{LiveLine, lines_to}
@@ -20,7 +18,7 @@ use Rattle.chain_rounds.proofs.ShownLemmas.{shown-prints}
 use Rattle.chain_run.specs.Runs.{RunStart, told_to}
 use Rattle.chain_run.specs.Ran.{IsValidRun}
 use Rattle.chain_tells.specs.Taking.{met_in}
-use Rattle.chain_tells.specs.Live.{lines_of_rows, HeardRows}
+use Rattle.chain_tells.specs.Live.{lines_of_rows}
 use Rattle.chain_tells.specs.declared.printing.Printing.{Printing}
 use Rattle.chain_tells.proofs.MetLemmas.{written-is, met-enough, met-stays, given-stays}
 use Rattle.window_ring.specs.declared.ring.Ring.{Ring}
@@ -28,17 +26,16 @@ use Rattle.window_ring.specs.Seats.{seen_of, key_of, table_of}
 use Rattle.chain_threads.specs.Standing.{key_at, written_by}
 use Rattle.chain_threads.specs.Driving.{AreBeside}
 use Rattle.chain_threads.specs.RunLaws.{RunLaws}
-use Rattle.chain_threads.proofs.Carries.{each_at}
 use Rattle.chain_live_threads.specs.declared.live_stage.LiveStage.{LiveStage}
 use Rattle.chain_live_threads.specs.declared.telling.Telling.{Telling}
-use Rattle.chain_live_threads.specs.Serving.{Serves, HasSeenMore, Keeps}
+use Rattle.chain_live_threads.specs.Serving.{Serves}
 use Rattle.chain_live_threads.specs.Marking.{IsSameBesidesPart}
 use Rattle.chain_live_threads.specs.Rows.{AreReady, Carried}
-use Rattle.chain_live_threads.specs.RowTells.{AreNumbered, seen_in_row, met_by, RowTells, RowHasTold}
+use Rattle.chain_live_threads.specs.RowTells.{AreNumbered, seen_in_row, met_by, RowTells}
 use Rattle.chain_live_threads.specs.RowTakes.{AllKnow, RowServes, RowGave}
 use Rattle.chain_live_threads.specs.RowWent.{RowReady, RowWent}
 use Rattle.chain_live_threads.proofs.Carries.{kept_open, kept_number, served}
-use Rattle.chain_live_threads.proofs.ToldLemmas.{seen-at, beside-numbers, beside-seen, beside-long}
+use Rattle.chain_live_threads.proofs.ToldLemmas.{beside-numbers, beside-seen, beside-long}
 
 some-of : {X : Type 0} (xs : List X) → 0 < length xs → X
 some-of [] lt = absurd (omega (arith, lt))

@@ -1,5 +1,5 @@
 -- The stage of a plugin that is given its mark, and of which lines are taken away. This project's own rule.
-use Rattle.std.specs.Prelude.{◌≡◌, ℕ, suc, ◌<◌, ◌≤◌, List, take}
+use Rattle.std.specs.Prelude.{◌≡◌, ℕ, suc, ◌<◌, List, take}
 use Rattle.ts_packet.specs.declared.cell.Cell.{Cell}
 use Rattle.cell_land.specs.declared.cell_window.Bases.{Bases}
 use Rattle.atomic_table.specs.Seated.{TableId}

@@ -1,5 +1,5 @@
 -- The stages after the input, and what they told so far. This project's own rule.
-use Rattle.std.specs.Prelude.{◌≡◌, ℕ, zero, suc, ◌+◌, ◌<◌, ◌≤◌, List, [], ◌∷◌, ◌++◌, length, map}
+use Rattle.std.specs.Prelude.{◌≡◌, ℕ, zero, suc, ◌+◌, ◌<◌, ◌≤◌, List, [], ◌∷◌, length, map}
 use Rattle.cell_land.specs.declared.cell_window.Bases.{Bases}
 use Rattle.ts_packet.specs.declared.cell.Cell.{Cell}
 use Rattle.atomic_table.specs.Seated.{TableId}

@@ -1,5 +1,5 @@
 -- A stage of a chain in two threads, between two turns. This project's own rule.
-use Rattle.std.specs.Prelude.{◌≡◌, ℕ, suc, ◌<◌, ◌≤◌, List, ◌++◌, Bool, true, false}
+use Rattle.std.specs.Prelude.{◌≡◌, List, ◌++◌, true, false}
 use Rattle.cell_land.specs.declared.cell_window.Bases.{Bases}
 use Rattle.atomic_table.specs.Seated.{TableId}
 use Rattle.chain_core.specs.Machine.{Visit}

@@ -1,4 +1,4 @@
-use Rattle.std.proofs.Common.{◌∙◌, sym, arith}
+use Rattle.std.proofs.Common.{◌∙◌, sym}
 use Rattle.stage_run.specs.Seeing.{seeing}
 use Rattle.chain_tells.specs.Printing.{PrintsLines}
 use Rattle.chain_live_threads.specs.Rows.{is_over}

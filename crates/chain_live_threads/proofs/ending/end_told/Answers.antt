@@ -1,4 +1,4 @@
-use Rattle.std.proofs.Common.{◌≡◌, ◌∙◌, length, map, subst, sym, ap, arith}
+use Rattle.std.proofs.Common.{map, subst, sym, arith}
 use Rattle.std.proofs.lemmas.List.{length-map}
 use Rattle.stage_run.specs.Seeing.{seeing, heard_rule}
 use Rattle.chain_run.specs.Runs.{began_with, told_to}

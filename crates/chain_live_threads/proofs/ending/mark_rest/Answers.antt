@@ -1,5 +1,4 @@
 use Rattle.std.proofs.Common.{◌≡◌, Result, Ok, Err, IfOk, is_ok, true, refl}
-use Rattle.chain_live_threads.specs.Ending.{IsMarkedTo}
 use Rattle.chain_live_threads.proofs.RestLemmas.{allows, noted, noted-mark}
 use Rattle.chain_live_threads.proofs.ending.mark_rest.Goals as goal
 

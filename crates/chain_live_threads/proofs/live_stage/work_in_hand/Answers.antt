@@ -1,5 +1,4 @@
-use Rattle.std.proofs.Common.{◌≡◌, ◌<◌, List, [], length, ◌∷◌, ◌++◌, refl, sym, ap, ◌∙◌, subst, arith, length-append}
-use Rattle.ts_packet.specs.declared.cell.Cell.{Cell}
+use Rattle.std.proofs.Common.{[], length, refl, ap, ◌∙◌, subst, arith}
 use Rattle.stage_run.specs.Seeing.{seeing}
 use Rattle.stage_run.specs.Works.{PartWork}
 use Rattle.window_ring.specs.Hands.{Row, IsFront}

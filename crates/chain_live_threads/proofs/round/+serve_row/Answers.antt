@@ -1,7 +1,7 @@
-use Rattle.std.proofs.Common.{◌≡◌, ◌&&◌, Bool, true, false, refl, sym, ◌∙◌, subst, arith}
+use Rattle.std.proofs.Common.{arith}
 use Rattle.stage_run.specs.Seeing.{seeing}
-use Rattle.chain_live_threads.specs.Rows.{is_over, HaveEnded}
-use Rattle.chain_live_threads.proofs.Carries.{ready_first, ready_rest, over_empty, over_joined, both}
+use Rattle.chain_live_threads.specs.Rows.{is_over}
+use Rattle.chain_live_threads.proofs.Carries.{ready_first, ready_rest, over_empty, over_joined}
 use Rattle.chain_live_threads.proofs.round.+serve_row.Goals as goal
 
 pub serve_one-one-requires-clause-ready : goal.serve_one-one-requires-clause-ready

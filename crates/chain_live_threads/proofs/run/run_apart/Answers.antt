@@ -1,5 +1,4 @@
 use Rattle.std.proofs.Common.{arith, refl}
-use Rattle.stage_run.specs.Seeing.{seeing}
 use Rattle.chain_run.proofs.RunUses.{never-err}
 use Rattle.chain_tells.proofs.LiveLemmas.{ok-of-err, on-err}
 use Rattle.chain_live_threads.proofs.run.run_apart.Goals as goal

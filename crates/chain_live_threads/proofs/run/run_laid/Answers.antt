@@ -1,7 +1,6 @@
-use Rattle.std.proofs.Common.{◌≡◌, arith}
+use Rattle.std.proofs.Common.{arith}
 use Rattle.stage_run.specs.Seeing.{seeing}
 use Rattle.chain_run.specs.Runs.{began_with}
-use Rattle.chain_tells.specs.Printing.{PrintsLines}
 use Rattle.chain_threads.proofs.SeatLemmas.{are_new}
 use Rattle.chain_live_threads.proofs.run.run_laid.Goals as goal
 

@@ -1,4 +1,4 @@
-use Rattle.std.proofs.Common.{◌≡◌, ℕ, suc, ◌+◌, ◌<◌, length, Result, Ok, Err, refl, ap, sym, ◌∙◌, subst, arith, rules}
+use Rattle.std.proofs.Common.{◌≡◌, ℕ, suc, ◌+◌, ◌<◌, length, Result, Ok, Err, sym, subst, arith, rules}
 use Rattle.std.specs.Prelude.{OnErr}
 use borrow.Author.Rules.{scaled_Fits}
 use Rattle.std.proofs.lemmas.List.{length-set}

@@ -1,7 +1,6 @@
 use Rattle.std.proofs.Common.{◌≡◌, Result, Ok, Err, IfOk, is_ok, Bool, true, if◌then◌else◌, refl, ap}
 use Rattle.stage_run.specs.Seeing.{seeing}
 use Rattle.stage_run.specs.PartLists.{marked_by}
-use Rattle.chain_live_threads.specs.Marking.{IsMarked}
 use Rattle.chain_live_threads.proofs.NoteLemmas.{kind-is, allows-note, after-note}
 use Rattle.chain_live_threads.proofs.live_stage.LiveStage.mark.Goals as goal
 

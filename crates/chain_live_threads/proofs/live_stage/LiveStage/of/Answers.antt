@@ -1,6 +1,4 @@
-use Rattle.std.proofs.Common.{refl}
 use Rattle.stage_run.specs.Seeing.{seeing}
-use Rattle.chain_threads.proofs.NewLemmas.{new-stands}
 use Rattle.chain_live_threads.proofs.ServeLemmas.{serves-new}
 use Rattle.chain_live_threads.proofs.live_stage.LiveStage.of.Goals as goal
 

@@ -1,4 +1,4 @@
-use Rattle.std.proofs.Common.{◌≡◌, Option, None, Some, true, false, sym, ap, ◌∙◌, subst, refl}
+use Rattle.std.proofs.Common.{◌≡◌, Option, None, Some, true, false, sym, ◌∙◌, subst, refl}
 use Rattle.std.specs.Prelude.{is_some, IsSome}
 use Rattle.stage_run.specs.Seeing.{seeing}
 use Rattle.window_ring.specs.Seats.{table_of, Went, HasVisited}
