@@ -175,7 +175,7 @@ static ROWS: [WordsRow; 84] = [
         rule: WordsRule::Shape,
     },
     WordsRow {
-        words: "-P zap -- x",
+        words: "-P zap -- 0",
         at: 0,
         rule: WordsRule::Value,
     },
