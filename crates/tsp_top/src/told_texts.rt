@@ -23,7 +23,7 @@ fn name_of_number(items: &[PluginItem], number: usize) -> &str
 }
 
 /// Appends a line that a plugin gave out to the text, bare or with the plugin's number and name.
-fn push_told(
+pub(crate) fn push_told(
     text: &mut String,
     bare: bool,
     items: &[PluginItem],
@@ -37,7 +37,7 @@ fn push_told(
 }
 
 /// Appends the lines that wait to the text, one after another, until none is left.
-fn push_waiting(
+pub(crate) fn push_waiting(
     text: &mut String,
     bare: bool,
     items: &[PluginItem],
@@ -53,7 +53,7 @@ fn push_waiting(
 }
 
 /// Lets go of the lines that wait.
-fn let_go(lines: &mut WaitingLines)
+pub(crate) fn let_go(lines: &mut WaitingLines)
     ensures all { waiting lines.new ≡ [] }
     ensures rows { length lines.new.rows.items ≡ length lines.old.rows.items }
 {
