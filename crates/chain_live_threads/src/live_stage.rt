@@ -67,12 +67,12 @@ fn work_in_hand<S: Source, K: Sink, P: Plugin, G: Gate>(
     }
 }
 
-/// The result of a turn whose stage goes on, by whether its hand is empty and by what it is to report.
-fn turn_of(empty: bool, word: &StageWord) -> Turn {
-    if empty {
-        if word.ended.is_none() {
-            return Turn::Idle;
-        }
+/// The result of a turn whose stage goes on: it is idle where its visit gave nothing, its hand is empty, and it has no end to report.
+///
+/// A visit that gave cells is news for the plugins' stages, which learn by it what is written, also where no cell is left in hand.
+fn turn_of(gave: usize, empty: bool, word: &StageWord) -> Turn {
+    if gave == 0 && empty && word.ended.is_none() {
+        return Turn::Idle;
     }
     Turn::Worked
 }
@@ -140,7 +140,8 @@ impl<S: Source, K: Sink, P: Plugin> LiveStage<S, K, P> {
     {
         // It runs nothing: the proof cites it.
         run_laws::<S, K, P>();
-        match ring.visit(&mut self.seat, self.done, self.word) {
+        let gave = self.done;
+        match ring.visit(&mut self.seat, gave, self.word) {
             Visited::Busy { holder: _ } => Turn::Busy,
             Visited::Given(news) => {
                 self.written = news.written;
@@ -156,7 +157,7 @@ impl<S: Source, K: Sink, P: Plugin> LiveStage<S, K, P> {
                 );
                 self.done = work.done;
                 self.word = work.word;
-                turn_of(empty, &work.word)
+                turn_of(gave, empty, &work.word)
             }
         }
     }
@@ -173,14 +174,18 @@ impl<S: Source, K: Sink, P: Plugin> LiveStage<S, K, P> {
     }
 
     /// A turn, and where it worked another one, which gives on what was worked on: the stage after it finds it at its next
-    /// turn. Returns the result of the last one.
+    /// turn. Returns `Ended` where the stage ended, else the result of the first one: who called it after work goes round once
+    /// more before it rests, so that what was written then is told without further packets.
     #[tactic(auto, using(crate::proofs::Carries::kept_then, crate::proofs::Carries::one_still_ready))]
     pub(crate) fn serve<G: Gate>(&mut self, ring: &Ring, gate: &G) -> Turn
         requires ready { IsReady (seeing S.seen K.seen P.rule P.stands_for P.preallocated) ring.now self.old }
         ensures keeps { Keeps (seeing S.seen K.seen P.rule P.stands_for P.preallocated) ring.now self.old self.new }
     {
         match self.step(ring, gate) {
-            Turn::Worked => self.step(ring, gate),
+            Turn::Worked => match self.step(ring, gate) {
+                Turn::Ended => Turn::Ended,
+                Turn::Worked | Turn::Idle | Turn::Busy => Turn::Worked,
+            },
             turn => turn,
         }
     }
