@@ -2,6 +2,7 @@ mod TextCutLemmas
 mod EventStartLemmas
 mod EventsLemmas
 mod Taking
+mod NumberedLemmas
 mod WordsLemmas
 mod Rows
 mod SectionRows

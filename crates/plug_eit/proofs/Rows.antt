@@ -2,6 +2,7 @@
 use Rattle.std.proofs.Common.{◌≡◌, ℕ, pos, negsuc, true, List, [], ◌∷◌, None, Some, refl}
 use Rattle.ts_bit_rows.specs.BitRow.{bit_of, field}
 use Rattle.ts_eit.specs.EventTimes.{pair_bits, time_bits}
+use Rattle.named_services.specs.declared.service_word.ServiceWord.TheVariants.{Name, Number}
 use Rattle.plug_eit.specs.EitEdit.{edited_section}
 use Rattle.plug_eit.specs.EventStart.{later_start}
 use Rattle.plug_eit.specs.ShortEventChange.{fitted}
@@ -72,29 +73,34 @@ before-the-first = refl
 
 -- settings that remove
 abbrev removing : EitConf
-removing = record { service = 7; event = None; name = None; text = None; shift = None; running_status = None; free_ca_mode = None; remove = true }
+removing = record { service = Number 7; event = None; name = None; text = None; shift = None; running_status = None; free_ca_mode = None; remove = true }
 
 -- a section of service 7 that has no more than its head, a part of its body and four more bytes: it does not read
 abbrev short : List ℕ
 short = 0x4E ∷ 0xF0 ∷ 0x0B ∷ 0x00 ∷ 0x07 ∷ 0xC1 ∷ 0x00 ∷ 0x00 ∷ 0x00 ∷ 0x01 ∷ 0x00 ∷ 0x00 ∷ 0x00 ∷ 0x00 ∷ []
 
+-- while no service has the name, all sections stay
+no-service : edited_section (record removing { service = Name (0x41 ∷ []) }) None short ≡ Some short
+unfolding edited_section
+no-service = refl
+
 -- sections of the service go, of the present events and of the schedule; those of other services and tables stay
-present-goes : edited_section removing short ≡ None
+present-goes : edited_section removing (Some 7) short ≡ None
 unfolding edited_section field bit_of
 present-goes = refl
 
-schedule-goes : edited_section removing (0x5F ∷ 0xF0 ∷ 0x09 ∷ 0x00 ∷ 0x07 ∷ 0xC1 ∷ []) ≡ None
+schedule-goes : edited_section removing (Some 7) (0x5F ∷ 0xF0 ∷ 0x09 ∷ 0x00 ∷ 0x07 ∷ 0xC1 ∷ []) ≡ None
 unfolding edited_section field bit_of
 schedule-goes = refl
 
-another-service : edited_section removing (0x4E ∷ 0xF0 ∷ 0x09 ∷ 0x01 ∷ 0x07 ∷ 0xC1 ∷ []) ≡ Some (0x4E ∷ 0xF0 ∷ 0x09 ∷ 0x01 ∷ 0x07 ∷ 0xC1 ∷ [])
+another-service : edited_section removing (Some 7) (0x4E ∷ 0xF0 ∷ 0x09 ∷ 0x01 ∷ 0x07 ∷ 0xC1 ∷ []) ≡ Some (0x4E ∷ 0xF0 ∷ 0x09 ∷ 0x01 ∷ 0x07 ∷ 0xC1 ∷ [])
 unfolding edited_section field bit_of
 another-service = refl
 
-another-stream : edited_section removing (0x4F ∷ 0xF0 ∷ 0x09 ∷ 0x00 ∷ 0x07 ∷ 0xC1 ∷ []) ≡ Some (0x4F ∷ 0xF0 ∷ 0x09 ∷ 0x00 ∷ 0x07 ∷ 0xC1 ∷ [])
+another-stream : edited_section removing (Some 7) (0x4F ∷ 0xF0 ∷ 0x09 ∷ 0x00 ∷ 0x07 ∷ 0xC1 ∷ []) ≡ Some (0x4F ∷ 0xF0 ∷ 0x09 ∷ 0x00 ∷ 0x07 ∷ 0xC1 ∷ [])
 unfolding edited_section field bit_of
 another-stream = refl
 
-schedule-of-another-stream : edited_section removing (0x60 ∷ 0xF0 ∷ 0x09 ∷ 0x00 ∷ 0x07 ∷ 0xC1 ∷ []) ≡ Some (0x60 ∷ 0xF0 ∷ 0x09 ∷ 0x00 ∷ 0x07 ∷ 0xC1 ∷ [])
+schedule-of-another-stream : edited_section removing (Some 7) (0x60 ∷ 0xF0 ∷ 0x09 ∷ 0x00 ∷ 0x07 ∷ 0xC1 ∷ []) ≡ Some (0x60 ∷ 0xF0 ∷ 0x09 ∷ 0x00 ∷ 0x07 ∷ 0xC1 ∷ [])
 unfolding edited_section field bit_of
 schedule-of-another-stream = refl

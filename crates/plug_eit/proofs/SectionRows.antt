@@ -16,22 +16,23 @@ use Rattle.ts_table_rows.specs.BodyReading.{read_body, read_fields, read_heading
 use Rattle.ts_table_rows.specs.BodySpelling.{bytes_of, spell_counted, spell_item, spell_parts}
 use Rattle.ts_table_rows.specs.RunReading.{read_run, read_section, read_sections}
 use Rattle.ts_table_rows.specs.TableSections.{body_rows, numbered, sections_of}
+use Rattle.named_services.specs.declared.service_word.ServiceWord.TheVariants.{Number}
 use Rattle.plug_eit.specs.EitEdit.{changed_section, edited_section}
 use Rattle.plug_eit.specs.TextCut.{cut_text, end_from}
 use Rattle.plug_eit.specs.declared.eit_conf.EitConf.{EitConf}
 
 -- settings that name the event 3 of service 7, and such that remove it
 abbrev naming : EitConf
-naming = record { service = 7; event = Some 3; name = Some (0x4E ∷ 0x65 ∷ 0x77 ∷ []); text = None; shift = None; running_status = None; free_ca_mode = None; remove = false }
+naming = record { service = Number 7; event = Some 3; name = Some (0x4E ∷ 0x65 ∷ 0x77 ∷ []); text = None; shift = None; running_status = None; free_ca_mode = None; remove = false }
 
 abbrev removing_one : EitConf
-removing_one = record { service = 7; event = Some 3; name = None; text = None; shift = None; running_status = None; free_ca_mode = None; remove = true }
+removing_one = record { service = Number 7; event = Some 3; name = None; text = None; shift = None; running_status = None; free_ca_mode = None; remove = true }
 
 -- a section that has two bytes too few for the head of its body: it does not read, and is given as it came
 abbrev short : List ℕ
 short = 0x4E ∷ 0xF0 ∷ 0x0D ∷ 0x00 ∷ 0x07 ∷ 0xC1 ∷ 0x00 ∷ 0x00 ∷ 0x00 ∷ 0x01 ∷ 0x00 ∷ 0x02 ∷ 0x11 ∷ 0x22 ∷ 0x33 ∷ 0x44 ∷ []
 
-unread-stays : edited_section naming short ≡ Some short
+unread-stays : edited_section naming (Some 7) short ≡ Some short
 unfolding edited_section changed_section read_run read_sections read_section read_body read_heading read_fields read_loop table_reading.read_after table_reading.read_items table_reading.read_next table_reading.read_item table_reading.read_described table_reading.read_counted table_reading.read_counted_loop descriptors_from bits number_of read_number read_bytes read_rest read_decimal read_field is_pair is_time is_start field bit_of
 unread-stays = refl
 
@@ -43,7 +44,7 @@ both = 0x4E ∷ 0xF0 ∷ 0x27 ∷ 0x00 ∷ 0x07 ∷ 0xC1 ∷ 0x00 ∷ 0x00 ∷ 0
 abbrev other : List ℕ
 other = 0x4E ∷ 0xF0 ∷ 0x1B ∷ 0x00 ∷ 0x07 ∷ 0xC1 ∷ 0x00 ∷ 0x00 ∷ 0x00 ∷ 0x01 ∷ 0x00 ∷ 0x02 ∷ 0x00 ∷ 0x4E ∷ 0x00 ∷ 0x04 ∷ 0xC0 ∷ 0x79 ∷ 0x12 ∷ 0x45 ∷ 0x00 ∷ 0x01 ∷ 0x45 ∷ 0x30 ∷ 0x80 ∷ 0x00 ∷ 0x21 ∷ 0x34 ∷ 0xE4 ∷ 0xB6 ∷ []
 
-one-removed : edited_section removing_one both ≡ Some other
+one-removed : edited_section removing_one (Some 7) both ≡ Some other
 unfolding edited_section changed_section read_run read_sections read_section read_body read_heading read_fields read_loop table_reading.read_after table_reading.read_items table_reading.read_next table_reading.read_item table_reading.read_described table_reading.read_counted table_reading.read_counted_loop descriptors_from bits number_of read_number read_bytes read_rest read_decimal read_field is_pair is_time is_start field bit_of sections_of body_rows numbered long_section crc_of divided_row remainder bytes_of spell_counted spell_item spell_parts spell_decimal spell_field spell_rows
 one-removed = refl
 
@@ -55,6 +56,6 @@ named = 0x4E ∷ 0xF0 ∷ 0x27 ∷ 0x00 ∷ 0x07 ∷ 0xC1 ∷ 0x00 ∷ 0x00 ∷ 
 abbrev renamed : List ℕ
 renamed = 0x4E ∷ 0xF0 ∷ 0x27 ∷ 0x00 ∷ 0x07 ∷ 0xC1 ∷ 0x00 ∷ 0x00 ∷ 0x00 ∷ 0x01 ∷ 0x00 ∷ 0x02 ∷ 0x00 ∷ 0x4E ∷ 0x00 ∷ 0x03 ∷ 0xC0 ∷ 0x79 ∷ 0x12 ∷ 0x45 ∷ 0x00 ∷ 0x01 ∷ 0x45 ∷ 0x30 ∷ 0x80 ∷ 0x0C ∷ 0x4D ∷ 0x0A ∷ 0x65 ∷ 0x6E ∷ 0x67 ∷ 0x03 ∷ 0x4E ∷ 0x65 ∷ 0x77 ∷ 0x02 ∷ 0x61 ∷ 0x62 ∷ 0x51 ∷ 0xDE ∷ 0xB1 ∷ 0xE8 ∷ []
 
-new-name : edited_section naming named ≡ Some renamed
+new-name : edited_section naming (Some 7) named ≡ Some renamed
 unfolding edited_section changed_section read_run read_sections read_section read_body read_heading read_fields read_loop table_reading.read_after table_reading.read_items table_reading.read_next table_reading.read_item table_reading.read_described table_reading.read_counted table_reading.read_counted_loop descriptors_from bits number_of read_number read_bytes read_rest read_decimal read_field is_pair is_time is_start field bit_of sections_of body_rows numbered long_section crc_of divided_row remainder bytes_of spell_counted spell_item spell_parts spell_decimal spell_field spell_rows read_typed read_rows read_page bodies.read_after bodies.read_items bodies.read_loop spell_page cut_text end_from
 new-name = refl

@@ -1,22 +1,20 @@
 -- One cell more.
-use Rattle.std.proofs.Common.{◌≡◌, ◌≢◌, ℕ, ◌≤◌, Bool, true, false, List, [], ◌∷◌, ◌++◌, length, filter, refl, sym, ◌∙◌, ap, append-nil, arith, length-append, subst, cond}
-use Rattle.std.specs.Prelude.{◌&&◌, None}
+use Rattle.std.proofs.Common.{◌≡◌, ◌≢◌, ℕ, ◌≤◌, ◌&&◌, Bool, true, false, List, [], ◌∷◌, ◌++◌, length, refl, sym, ◌∙◌, ap, append-nil, arith, length-append, subst, cond, true≢false, Option, None, Some}
 use Rattle.std.specs.List.{list_any}
 use Rattle.std.proofs.lemmas.Grind.{flat_map-append}
-use Rattle.std.proofs.lemmas.List.Elements.{filter-append}
 use Rattle.ts_packet.specs.declared.cell.Cell.{Cell}
 use Rattle.ts_packet.specs.Cells.{Dropped, Live, live_packets, packet_in}
 use Rattle.ts_packet.specs.Header.{pid_of}
-use Rattle.plugin_trait.proofs.FindLemmas.{find-dropped, find-first, find-met, find-nothing}
-use Rattle.plugin_trait.specs.Finding.{first_of}
+use Rattle.plugin_trait.proofs.FindLemmas.{find-dropped, find-first, find-met}
+use Rattle.plugin_trait.specs.Finding.{IsFirstFind, first_of}
 use Rattle.plugin_trait.specs.Unmarked.{unmarked}
 use Rattle.plugin_trait.specs.declared.first_find.FirstFind.{FirstFind}
-use Rattle.section_flow.specs.Flow.{Edit, alters, completed_by, replaced}
-use Rattle.section_flow.specs.FlowStands.{SameEdit, StandsFor, has_altered, has_failed}
+use Rattle.section_flow.specs.Flow.{alters, completed_by, replaced}
 use Rattle.section_flow.specs.declared.flow.Flow.{Flow}
-use Rattle.plug_eit.specs.EitEdit.{edited_section}
-use Rattle.plug_eit.specs.EitRule.{eit_edit, eit_packets, finds_altered, is_eit}
-use Rattle.plug_eit.specs.EitState.{StandsWith}
+use Rattle.followed_services.specs.declared.named_service.NamedService.{NamedService}
+use Rattle.plug_eit.specs.EitRule.{alters_with, eit_edit, finds_altered, is_eit, made_of}
+use Rattle.plug_eit.specs.EitState.{Edits, MeetsHistory, StandsFor}
+use Rattle.plug_eit.specs.declared.eit.EitSteps.{EitSteps}
 use Rattle.plug_eit.specs.declared.eit_conf.EitConf.{EitConf}
 use Rattle.plug_eit.specs.declared.numbers.TheConstants.{EIT_PID}
 
@@ -27,84 +25,75 @@ other_pid packet h = grind (arith, h)
 pub same_pid : (packet : List ℕ) → pid_of packet ≡ EIT_PID → is_eit packet ≡ true
 same_pid packet h = grind (arith, h)
 
--- the packets on the PID, with one more
-one-more : (history : List Cell) (packet : List ℕ) (labels : ℕ) → eit_packets (history ++ Live packet labels ∷ []) ≡ eit_packets history ++ filter is_eit (packet ∷ [])
-one-more history packet labels =
-    ap (filter is_eit) (flat_map-append packet_in history (Live packet labels ∷ []))
-    ∙ filter-append is_eit (live_packets history) (packet ∷ [])
+-- where nothing is found, nothing is noted
+none-noted : (o : Option ℕ) (at : ℕ) → o ≡ first_of o at false
+none-noted None at = refl
+none-noted (Some first) at = refl
 
-other-more : (history : List Cell) (packet : List ℕ) (labels : ℕ) → is_eit packet ≡ false → eit_packets (history ++ Live packet labels ∷ []) ≡ eit_packets history
-other-more history packet labels e =
-    one-more history packet labels ∙ ap (λ b. eit_packets history ++ cond b (packet ∷ []) []) e ∙ append-nil (eit_packets history)
+module _ (conf : EitConf) (met : List (List ℕ)) (packet : List ℕ) where
+  pub made-other : is_eit packet ≡ false → packet ≡ made_of conf met packet
+  made-other e = sym (ap (λ b. cond b (replaced EIT_PID (eit_edit conf) met packet) packet) e)
 
-own-more : (history : List Cell) (packet : List ℕ) (labels : ℕ) → is_eit packet ≡ true → eit_packets (history ++ Live packet labels ∷ []) ≡ eit_packets history ++ packet ∷ []
-own-more history packet labels e = one-more history packet labels ∙ ap (λ b. eit_packets history ++ cond b (packet ∷ []) []) e
+  pub made-own : is_eit packet ≡ true → (after : List ℕ) → after ≡ replaced EIT_PID (eit_edit conf) met packet → after ≡ made_of conf met packet
+  made-own e after is = is ∙ sym (ap (λ b. cond b (replaced EIT_PID (eit_edit conf) met packet) packet) e)
+
+  alters-as : (b : Bool) → is_eit packet ≡ b →
+      alters_with conf met packet ≡ (b && list_any (alters (eit_edit conf (met ++ packet ∷ []))) (completed_by EIT_PID met packet))
+  alters-as b e = ap (λ t. t && list_any (alters (eit_edit conf (met ++ packet ∷ []))) (completed_by EIT_PID met packet)) e
+
+  pub noted-other : (found : FirstFind) (at : ℕ) → is_eit packet ≡ false → found.at ≡ first_of found.at at (alters_with conf met packet)
+  noted-other found at e = none-noted found.at at ∙ ap (first_of found.at at) (sym (alters-as false e))
+
+  pub noted-own : (old new : FirstFind) (at : ℕ) (altered : Bool) → is_eit packet ≡ true → new.at ≡ first_of old.at at altered →
+      altered ≡ list_any (alters (eit_edit conf (met ++ packet ∷ []))) (completed_by EIT_PID met packet) →
+      new.at ≡ first_of old.at at (alters_with conf met packet)
+  noted-own old new at altered e noted is = noted ∙ ap (first_of old.at at) (is ∙ sym (alters-as true e))
+
+-- ---- one cell more
 
 marked : (mark : ℕ) (history : List Cell) (cell : Cell) → mark ≤ length history → mark ≤ length (history ++ cell ∷ [])
 marked mark history cell h = omega (arith, h, length-append history (cell ∷ []))
 
-dropped-more : (history : List Cell) → eit_packets (history ++ Dropped ∷ []) ≡ eit_packets history
-dropped-more history = ap (filter is_eit) (flat_map-append packet_in history (Dropped ∷ []) ∙ append-nil (live_packets history))
-
--- whether something is found, where it is known whether the packet is on the PID
-found-as : (conf : EitConf) (history : List Cell) (packet : List ℕ) (labels : ℕ) (b : Bool) → is_eit packet ≡ b →
-    finds_altered conf history packet labels ≡ (b && list_any (alters (edited_section conf)) (completed_by EIT_PID (eit_packets history) packet))
-found-as conf history packet labels b e = ap (λ t. t && list_any (alters (edited_section conf)) (completed_by EIT_PID (eit_packets history) packet)) e
+-- what is said of other settings is said of the same ones
+same-conf : (conf conf' : EitConf) (history : List Cell) (found : FirstFind) → conf' ≡ conf → IsFirstFind (finds_altered conf) history found → IsFirstFind (finds_altered conf') history found
+same-conf conf conf' history found e h = subst (λ (c : EitConf). IsFirstFind (finds_altered c) history found) (sym e) h
 
 -- before the first packet
-pub fresh-stands : (conf : EitConf) (flow : Flow) (found : FirstFind) → StandsFor flow EIT_PID (eit_edit conf) [] → found.at ≡ None → StandsWith conf flow found []
-fresh-stands conf flow found fresh none = (λ works. fresh, find-first _ found none)
+pub fresh-stands : (conf : EitConf) (service : NamedService) (flow : Flow) (found : FirstFind) (failed : Bool) → Edits conf service flow [] → found.at ≡ None
+    → (failed ≡ false → Edits conf service flow []) × IsFirstFind (finds_altered conf) [] found
+fresh-stands conf service flow found failed fresh none = (λ works. fresh, find-first _ found none)
 
-module _ (conf : EitConf) where
-  pub meets_dropped :
-      (flow : Flow) (mark : ℕ) (found : FirstFind) (history : List Cell) →
-      unmarked (StandsWith conf flow found) history mark → unmarked (StandsWith conf flow found) (history ++ Dropped ∷ []) mark
-  meets_dropped flow mark found history s = (
+module _ (old new : EitSteps) (mark : ℕ) (history : List Cell) (e : new.edit.conf ≡ old.edit.conf) (s : unmarked (MeetsHistory old) history mark) where
+  pub met-more :
+      (packet : List ℕ) (labels at : ℕ) → length history ≡ at →
+      ((met : List (List ℕ)) → StandsFor old met → StandsFor new (met ++ packet ∷ [])) →
+      ((met : List (List ℕ)) → StandsFor old met → new.found.at ≡ first_of old.found.at at (alters_with old.edit.conf met packet)) →
+      unmarked (MeetsHistory new) (history ++ Live packet labels ∷ []) mark
+  met-more packet labels at count stands noted =
+      let met = live_packets history in (
+        (
+          subst (StandsFor new) (sym (flat_map-append packet_in history (Live packet labels ∷ []))) (stands met s.0.0),
+          same-conf old.edit.conf new.edit.conf (history ++ Live packet labels ∷ []) new.found e
+              (find-met (finds_altered old.edit.conf) history packet labels at (alters_with old.edit.conf met packet) old.found new.found s.0.1 count refl (noted met s.0.0)),
+        ),
+        marked mark history (Live packet labels) s.1,
+      )
+
+  -- memory ran out
+  pub met-failed : new.failed ≡ true → new.found ≡ old.found → unmarked (MeetsHistory new) history mark
+  met-failed failed found = (
     (
-      λ works. subst (StandsFor flow EIT_PID (eit_edit conf)) (sym (dropped-more history)) (s.0.0 works),
-      find-dropped (finds_altered conf) history found s.0.1,
+      λ works. absurd (true≢false (sym failed ∙ works)),
+      same-conf old.edit.conf new.edit.conf history new.found e (subst (λ f. IsFirstFind (finds_altered old.edit.conf) history f) (sym found) s.0.1),
     ),
-    marked mark history Dropped s.1,
+    s.1,
   )
 
-  pub meets_other :
-      (flow : Flow) (mark : ℕ) (found : FirstFind) (history : List Cell) (packet : List ℕ) (labels : ℕ) →
-      is_eit packet ≡ false → unmarked (StandsWith conf flow found) history mark → unmarked (StandsWith conf flow found) (history ++ Live packet labels ∷ []) mark
-  meets_other flow mark found history packet labels e s = (
-    (
-      λ works. subst (StandsFor flow EIT_PID (eit_edit conf)) (sym (other-more history packet labels e)) (s.0.0 works),
-      find-nothing (finds_altered conf) history packet labels found s.0.1 (found-as conf history packet labels false e),
-    ),
-    marked mark history (Live packet labels) s.1,
-  )
-
-  -- what is said of a packet that the flow met
-  module _
-      (old new : Flow) (history : List Cell) (packet after : List ℕ) (labels : ℕ) (found : FirstFind) (mark : ℕ) (own : is_eit packet ≡ true) (works : has_failed old ≡ false)
-      (s : unmarked (StandsWith conf old found) history mark) where
-    pub gives_replaced :
-        ((pid : ℕ) (wanted : Edit) (met : List (List ℕ)) → StandsFor old pid wanted met → SameEdit (edited_section conf) (wanted (met ++ packet ∷ [])) → after ≡ replaced pid wanted met packet) →
-        after ≡ cond (is_eit packet) (replaced EIT_PID (eit_edit conf) (eit_packets history) packet) packet
-    gives_replaced gives =
-        gives EIT_PID (eit_edit conf) (eit_packets history) (s.0.0 works) (λ section. refl)
-        ∙ ap (λ b. cond b (replaced EIT_PID (eit_edit conf) (eit_packets history) packet) packet) (sym own)
-
-    pub meets_own :
-        (at : ℕ) (met : FirstFind) (altered : Bool) →
-        ((pid : ℕ) (wanted : Edit) (met : List (List ℕ)) → StandsFor old pid wanted met → SameEdit (edited_section conf) (wanted (met ++ packet ∷ [])) → StandsFor new pid wanted (met ++ packet ∷ [])) →
-        ((pid : ℕ) (wanted : Edit) (met : List (List ℕ)) → StandsFor old pid wanted met → SameEdit (edited_section conf) (wanted (met ++ packet ∷ [])) → has_altered new ≡ list_any (alters (wanted (met ++ packet ∷ []))) (completed_by pid met packet)) →
-        altered ≡ has_altered new → length history ≡ at → met.at ≡ first_of found.at at altered →
-        unmarked (StandsWith conf new met) (history ++ Live packet labels ∷ []) mark
-    meets_own at met altered steps tells same count noted =
-        let stood = s.0.0 works in (
-          (
-            λ _. subst (StandsFor new EIT_PID (eit_edit conf)) (sym (own-more history packet labels own)) (steps EIT_PID (eit_edit conf) (eit_packets history) stood (λ section. refl)),
-            find-met (finds_altered conf) history packet labels at altered found met s.0.1 count
-                (same ∙ tells EIT_PID (eit_edit conf) (eit_packets history) stood (λ section. refl) ∙ sym (found-as conf history packet labels true own)) noted,
-          ),
-          marked mark history (Live packet labels) s.1,
-        )
-
-pub not_true : (b : Bool) → (b ≡ true → false ≡ true) → b ≡ false
-not_true true h = sym (h refl)
-not_true false h = refl
+pub met-dropped : (steps : EitSteps) (mark : ℕ) (history : List Cell) → unmarked (MeetsHistory steps) history mark → unmarked (MeetsHistory steps) (history ++ Dropped ∷ []) mark
+met-dropped steps mark history s = (
+  (
+    subst (StandsFor steps) (sym (flat_map-append packet_in history (Dropped ∷ []) ∙ append-nil (live_packets history))) s.0.0,
+    find-dropped (finds_altered steps.edit.conf) history steps.found s.0.1,
+  ),
+  marked mark history Dropped s.1,
+)

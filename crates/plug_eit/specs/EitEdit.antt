@@ -1,7 +1,7 @@
 -- What `eit` makes of a section.
 -- ETSI EN 300 468, 5.2.4. The edit is this project's own rule: a section that does not read, one without such an event, and one
 -- that would become longer is given as it came.
-use Rattle.std.specs.Prelude.{ℕ, ◌&&◌, List, [], ◌∷◌, length, nat_le, Bool, is_some, not, Option, Some, None, Result, Ok, Err, if◌then◌else◌}
+use Rattle.std.specs.Prelude.{ℕ, ◌&&◌, List, [], ◌∷◌, length, nat_le, Bool, false, is_some, not, Option, Some, None, Result, Ok, Err, if◌then◌else◌}
 use Rattle.std.specs.List.{list_any}
 use Rattle.ts_table_rows.specs.RunReading.{FirstBroken, read_run}
 use Rattle.ts_table_rows.specs.TableSections.{sections_of}
@@ -55,7 +55,12 @@ changed_section conf s = changed_by conf s (table_read (read_run eit_page (s ∷
 abbrev pub removes_sections : EitConf → Bool
 removes_sections conf = conf.remove && not (is_some conf.event)
 
--- what becomes of a section of any table
-unfoldable pub edited_section : EitConf → List ℕ → Option (List ℕ)
-edited_section conf s =
-    if is_of_service conf.service s then (if removes_sections conf then None else Some (changed_section conf s)) else Some s
+-- an EIT section of the service with this number, if there is one
+abbrev pub is_of_one : Option ℕ → List ℕ → Bool
+is_of_one None s = false
+is_of_one (Some service) s = is_of_service service s
+
+-- what becomes of a section of any table, where the service has this number, or where there is none
+unfoldable pub edited_section : EitConf → Option ℕ → List ℕ → Option (List ℕ)
+edited_section conf service s =
+    if is_of_one service s then (if removes_sections conf then None else Some (changed_section conf s)) else Some s

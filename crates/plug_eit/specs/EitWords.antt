@@ -1,19 +1,22 @@
 -- The words of `eit`. This project's own rule.
 use Rattle.std.specs.Prelude.{◌&&◌, ◌||◌, List, [], ◌∷◌, Bool, codes, unwrap_or}
 use Rattle.clap.specs.Walk.{Row}
-use Rattle.plugin_options.specs.Forms.{number, signed, text}
+use Rattle.plugin_options.specs.Forms.{known, number, signed, text}
 use Rattle.plugin_options.specs.Number.{number_within}
 use Rattle.plugin_options.specs.Options.{OptionRow, flag, has_flag, has_value, read_value, value, value_of}
 use Rattle.plugin_options.specs.OptionTable.{OptionTable}
+use Rattle.plugin_options.specs.ServiceTexts.{is_service}
 use Rattle.plugin_options.specs.Signed.{signed_within}
+use Rattle.named_services.specs.ServiceWords.{word_of}
+use Rattle.named_services.specs.declared.service_word.ServiceWord.TheVariants.{Number}
 use Rattle.plug_time.specs.declared.numbers.TheConstants.{LEAST_SHIFT, MOST_SHIFT}
 use Rattle.plug_eit.specs.EitSettings.{eit_together}
 use Rattle.plug_eit.specs.declared.eit_conf.EitConf.{EitConf}
 use Rattle.plug_eit.specs.declared.numbers.TheConstants.{LAST_ID, LAST_MODE, LAST_STATUS}
 
--- the options
+-- the options; a service is given by its number or its name
 abbrev pub eit_rows : List OptionRow
-eit_rows = record { name = codes "service"; kind = value (number 1 LAST_ID) }
+eit_rows = record { name = codes "service"; kind = value (known is_service) }
     ∷ record { name = codes "event"; kind = value (number 0 LAST_ID) }
     ∷ record { name = codes "name"; kind = value text }
     ∷ record { name = codes "text"; kind = value text }
@@ -26,7 +29,7 @@ eit_rows = record { name = codes "service"; kind = value (number 1 LAST_ID) }
 -- the settings of what is found
 abbrev pub eit_settings : List Row → EitConf
 eit_settings found = record {
-  service = unwrap_or (read_value (number_within 1 LAST_ID) (codes "service") found) 0;
+  service = unwrap_or (read_value word_of (codes "service") found) (Number 0);
   event = read_value (number_within 0 LAST_ID) (codes "event") found;
   name = value_of (codes "name") found;
   text = value_of (codes "text") found;

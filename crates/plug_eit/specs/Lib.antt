@@ -5,6 +5,7 @@ pub mod ShortEventChange
 pub mod EventChange
 pub mod EitEdit
 pub mod EitRule
+pub mod OnePid
 pub mod EitState
 pub mod EitSettings
 pub mod EitWords

@@ -3,14 +3,15 @@
 ghost use Rattle.std.specs.Prelude.{◌≡◌, IfOk};
 ghost use Rattle.plug_eit.specs.EitSettings.{changes_events, eit_together};
 
+use followed_services::ServiceWord;
 use std::alloc::AllocError;
 use ts_outside::NameText;
 
 /// Settings of `eit`, which edits the EIT sections of a service as they pass.
 #[derive(Drop)]
 pub struct EitConf {
-    /// The number of the service, 1 to 65,535.
-    pub service: u64,
+    /// The number of the service, or its name.
+    pub service: ServiceWord,
     /// The event_id of the events that are edited, 0 to 65,535; without it all are.
     pub event: Option<u64>,
     /// Their new name.
@@ -33,7 +34,7 @@ impl EitConf {
         ensures { IfOk result (λ conf. conf ≡ self.now) }
     {
         Ok(EitConf {
-            service: self.service,
+            service: self.service.copy()?,
             event: self.event,
             name: copy_of_text(&self.name)?,
             text: copy_of_text(&self.text)?,

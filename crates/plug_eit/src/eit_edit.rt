@@ -8,7 +8,7 @@ ghost use Rattle.section_flow.specs.FlowStands.{outcome};
 ghost use Rattle.ts_table_pages.specs.EitPages.{eit_page};
 ghost use Rattle.ts_eit.specs.EitTables.{eit_held};
 ghost use Rattle.plug_eit.specs.EitEdit as edit;
-ghost use Rattle.plug_eit.specs.EitSettings.{IsValidEit};
+ghost use Rattle.plug_eit.specs.EitSettings.{IsValidChange};
 
 use crate::eit_conf::EitConf;
 use crate::events::{changed_events, has_event};
@@ -22,17 +22,19 @@ use ts_table_rows::{TableFault, TableRefusal};
 #[derive(Drop)]
 pub struct EitEdit {
     pub(crate) conf: EitConf,
-    pub(crate) ghost valid: { IsValidEit conf },
+    /// The number of the service, where there is one.
+    pub(crate) service: Option<u16>,
+    pub(crate) ghost valid: { IsValidChange conf },
 }
 
 impl SectionEdit for EitEdit {
     ghost use Rattle.plug_eit.specs.EitEdit.{edited_section};
 
-    ghost edited = { λ e section. edited_section e.conf section };
+    ghost edited = { λ e section. edited_section e.conf e.service section };
 
     #[tactic(auto, unfolding(crate::specs::EitEdit::edited_section))]
     fn edit(&self, alloc: Global, section: &Section) -> Result<SectionChange, AllocError> {
-        if !is_of_service(self.conf.service, section) {
+        if !is_of_one(self.service, section) {
             return Ok(SectionChange::Stays);
         }
         if self.conf.remove && self.conf.event.is_none() {
@@ -43,6 +45,16 @@ impl SectionEdit for EitEdit {
     }
 }
 
+// Whether a section is an EIT section of the service with this number, if there is one.
+fn is_of_one(service: Option<u16>, section: &Section) -> bool
+    ensures { result ≡ edit.is_of_one service section.now }
+{
+    match service {
+        Some(service) => is_of_service(u64::from(service), section),
+        None => false,
+    }
+}
+
 // An EIT section of the service after the edit.
 #[tactic(auto, unfolding(crate::specs::EitEdit::changed_section))]
 fn changed_section(
@@ -50,7 +62,7 @@ fn changed_section(
     conf: &EitConf,
     section: &Section,
 ) -> Result<SectionChange, AllocError>
-    requires valid { IsValidEit conf.now }
+    requires valid { IsValidChange conf.now }
     requires alone { stands_alone section.now ≡ true }
     ensures { IfOk result (λ change. outcome section.now change ≡ Some (edit.changed_section conf.now section.now)) }
 {
@@ -82,7 +94,7 @@ fn read_eit(alloc: Global, section: &Section) -> Result<Option<Eit>, AllocError>
 
 // An EIT with its events after the edit.
 fn changed_eit(alloc: Global, conf: &EitConf, eit: Eit) -> Result<Eit, AllocError>
-    requires { IsValidEit conf.now }
+    requires { IsValidChange conf.now }
     ensures { IfOk result (λ changed. eit_held changed ≡ edit.changed_table conf.now (eit_held eit)) }
 {
     let Eit {

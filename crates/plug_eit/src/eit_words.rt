@@ -7,6 +7,7 @@ ghost use Rattle.plugin_options.specs.Refusal.{ReadsParsed};
 
 use crate::eit_conf::EitConf;
 use crate::numbers::{LAST_ID, LAST_MODE, LAST_STATUS};
+use followed_services::service_option;
 use plug_time::{LEAST_SHIFT, MOST_SHIFT};
 use plugin_entry::{PluginHelp, PluginSettings};
 use plugin_options::{
@@ -17,10 +18,10 @@ use std::alloc::Global;
 // The options of `eit`.
 static EIT: [OptionRow; 8] = [
     OptionRow {
-        word: OptionWord::Value("service", Takes::Number(1, LAST_ID)),
+        word: OptionWord::Value("service", Takes::Service),
         text: OptionText {
             value: "S",
-            meaning: "1 to 65535: the service whose EIT sections are edited",
+            meaning: "1 to 65535: the number of the service whose EIT sections are edited; or its name, letter for letter as info reports it beside the number",
             need: Need::Required,
             beside: Beside::Any,
         },
@@ -117,7 +118,7 @@ fn eit_settings(alloc: Global, found: &ParsedOptions) -> Result<EitConf, Refusal
     if !is_needed_given(found) {
         return Err(Refusal::Broken(WordsRule::Missing));
     }
-    let Some(service) = found.number("service", 1, LAST_ID)? else {
+    let Some(service) = service_option(alloc, found, "service")? else {
         return Err(Refusal::Broken(WordsRule::Missing));
     };
     let event = found.number("event", 0, LAST_ID)?;
@@ -159,7 +160,7 @@ impl PluginSettings for EitConf {
     fn help() -> PluginHelp {
         PluginHelp {
             usage: "-P eit --service S [--event ID] (--name TEXT | --text TEXT | --shift=SECONDS | --running-status N | --free-ca-mode N | --remove)..",
-            rule: "The EIT sections of the service, of table_id 78 and 80 to 95 on PID 18, are edited as they pass; each section there is given once, from the packet with which it is complete on, and a packet for which none waits becomes a null packet. Scrambled packets pass. A section never becomes longer than it was: in a short_event_descriptor first the text is cut, then the name, at a character's end. A section that does not read, one without such an event, and those of other services and tables are given as they came. An undefined start stays, and so does one that would leave its 16 bits of days.",
+            rule: "The EIT sections of the service, of table_id 78 and 80 to 95 on PID 18, are edited as they pass; each section there is given once, from the packet with which it is complete on, and a packet for which none waits becomes a null packet. Scrambled packets pass. A section never becomes longer than it was: in a short_event_descriptor first the text is cut, then the name, at a character's end. A section that does not read, one without such an event, and those of other services and tables are given as they came. An undefined start stays, and so does one that would leave its 16 bits of days. A service is given by its number, or by its name as info shows it: the first of that name in the SDT in force, at each packet. While no service has the name, all sections are given as they came.",
         }
     }
 

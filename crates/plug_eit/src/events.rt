@@ -6,7 +6,7 @@ ghost use Rattle.std.specs.List.{list_any};
 ghost use Rattle.std.specs.Option.{ForSome};
 ghost use Rattle.ts_eit.specs.EitTables.{event_item};
 ghost use Rattle.ts_eit.specs.declared.events.Event.{Event};
-ghost use Rattle.plug_eit.specs.EitSettings.{IsValidEit};
+ghost use Rattle.plug_eit.specs.EitSettings.{IsValidChange};
 ghost use Rattle.plug_eit.specs.EventChange as change;
 
 use crate::eit_conf::EitConf;
@@ -28,7 +28,7 @@ pub(crate) fn changed_events(
     conf: &EitConf,
     events: Vec<Event>,
 ) -> Result<Vec<Event>, AllocError>
-    requires { IsValidEit conf.now }
+    requires { IsValidChange conf.now }
     ensures { IfOk result (λ all. map event_item all.items ≡ change.changed_events conf.now (map event_item events.items)) }
 {
     if conf.remove {
@@ -67,7 +67,7 @@ fn without_events(conf: &EitConf, events: Vec<Event>) -> Vec<Event>
 
 // The events with those changed that are asked for.
 fn each_changed(alloc: Global, conf: &EitConf, events: Vec<Event>) -> Result<Vec<Event>, AllocError>
-    requires { IsValidEit conf.now }
+    requires { IsValidChange conf.now }
     ensures { IfOk result (λ all. map event_item all.items
         ≡ map (change.changed_event conf.now) (map event_item events.items)) }
 {
@@ -81,7 +81,7 @@ fn each_changed(alloc: Global, conf: &EitConf, events: Vec<Event>) -> Result<Vec
 
 // An event, changed if it is asked for.
 fn changed_event(alloc: Global, conf: &EitConf, event: Event) -> Result<Event, AllocError>
-    requires { IsValidEit conf.now }
+    requires { IsValidChange conf.now }
     ensures { IfOk result (λ changed. event_item changed ≡ change.changed_event conf.now (event_item event)) }
 {
     if !is_asked(conf.event, event.event_id) {

@@ -5,6 +5,7 @@
 mod eit;
 mod eit_conf;
 mod eit_edit;
+mod eit_laws;
 mod eit_words;
 mod event_start;
 mod events;
@@ -14,4 +15,6 @@ mod text_cut;
 
 pub use eit::{Eit, new_eit};
 pub use eit_conf::EitConf;
+pub use eit_laws::a_number_is_edited_by_one_pid;
+pub use followed_services::{ServiceWord, Unnamed};
 pub use numbers::{LAST_ID, LAST_MODE, LAST_STATUS};

@@ -9,6 +9,7 @@ use Rattle.plug_psi.specs.declared.varied_editor.VariedEditor.{VariedEditor}
 use Rattle.plug_psi.proofs.VariedLemmas.{varies-elsewhere}
 use Rattle.section_flow.specs.FlowStands as flowing
 use Rattle.section_flow.specs.declared.flow.Flow.{Flow}
+use Rattle.section_flow.proofs.OtherPids.{flow-elsewhere}
 use Rattle.named_services.specs.declared.service_word.ServiceWord.{ServiceWord}
 use Rattle.plug_service.specs.Actions.{action_after, edits_eits, edits_nits}
 use Rattle.plug_service.specs.EditorsState.{EditsNits, EditsPats, EditsSdts}
@@ -20,7 +21,6 @@ use Rattle.plug_service.specs.declared.nit_part.NitPart.{NitPart}
 use Rattle.plug_service.specs.declared.pat_part.PatPart.{PatPart}
 use Rattle.plug_service.specs.declared.sdt_part.SdtPart.{SdtPart}
 use Rattle.plug_service.proofs.ActionLemmas.{edits_eit, edits_nit, edits_pat, edits_sdt, eit_pid, fixed_pids, nit_pid}
-use Rattle.plug_service.proofs.FlowLemmas.{flow-elsewhere}
 
 both_true : (a b : Bool) → (a && b) ≡ true → (a ≡ true) × (b ≡ true)
 both_true true b e = (refl, e)

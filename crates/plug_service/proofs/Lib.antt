@@ -4,7 +4,6 @@ pub mod PartLemmas
 pub mod PidLemmas
 pub mod PresentLemmas
 pub mod FlagLemmas
-pub mod FlowLemmas
 pub mod StepLemmas
 pub mod ServiceLemmas
 mod OneServiceRows

@@ -64,7 +64,7 @@ fn idle_of_tables(plugin: &TablesPlugin) -> Result<Option<Idle>, AllocError> {
         TablesPlugin::Svremove(plugin) => idle_services(&plugin.steps),
         TablesPlugin::Svrename(plugin) => idle_editor(Ok(plugin.steps.unedited())),
         TablesPlugin::Time(plugin) => Ok(idle_time(plugin)),
-        TablesPlugin::Eit(plugin) => Ok(idle_eit(plugin)),
+        TablesPlugin::Eit(plugin) => idle_eit(plugin),
     }
 }
 
@@ -83,10 +83,13 @@ fn idle_services(steps: &ServiceSteps) -> Result<Option<Idle>, AllocError> {
     if let Some(why) = steps.unedited() {
         return Ok(Some(Idle::Unedited(why)));
     }
-    match steps.unnamed()? {
-        Some(Unnamed::NoSdt) => Ok(Some(Idle::NoSdt)),
-        Some(Unnamed::NoName) => Ok(Some(Idle::NoName)),
-        None => Ok(None),
+    Ok(steps.unnamed()?.map(idle_name))
+}
+
+fn idle_name(why: Unnamed) -> Idle {
+    match why {
+        Unnamed::NoSdt => Idle::NoSdt,
+        Unnamed::NoName => Idle::NoName,
     }
 }
 
@@ -121,9 +124,12 @@ fn idle_time(plugin: &Time) -> Option<Idle> {
     Some(Idle::NoTime)
 }
 
-fn idle_eit(plugin: &Eit) -> Option<Idle> {
+fn idle_eit(plugin: &Eit) -> Result<Option<Idle>, AllocError> {
     if plugin.steps.has_come() {
-        return None;
+        return Ok(None);
     }
-    Some(Idle::NoSection)
+    match plugin.steps.unnamed()? {
+        Some(why) => Ok(Some(idle_name(why))),
+        None => Ok(Some(Idle::NoSection)),
+    }
 }

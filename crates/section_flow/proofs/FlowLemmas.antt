@@ -30,7 +30,7 @@ met-none demux packing failed pid edit works empty stands = record {
 }
 
 -- one packet more at the end
-waiting_from-more :
+pub waiting_from-more :
     (pid : ℕ) (edit : Edit) (met : List (List ℕ)) (waiting : Waiting) (packets : List (List ℕ)) (packet : List ℕ) →
     waiting_from pid edit met waiting (packets ++ packet ∷ []) ≡ (given_after pid edit (met ++ packets) (waiting_from pid edit met waiting packets) packet).waiting
 unfolding waiting_from

@@ -5,3 +5,5 @@ pub mod FlowLemmas
 pub mod LawLemmas
 pub mod LoadsRead
 pub mod Reading
+pub mod OtherPids
+pub mod OnePid

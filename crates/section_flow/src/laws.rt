@@ -1,10 +1,15 @@
 //! Laws of flows, each a fact and no code.
 
-ghost use Rattle.std.specs.Prelude.{◌≡◌, ◌==◌, ◌<◌, ◌∷◌, ◌++◌, ℕ, List, [], true, false};
+ghost use Rattle.std.specs.Prelude.{◌≡◌, ◌==◌, ◌<◌, ◌∷◌, ◌++◌, ℕ, List, Option, [], true, false};
 ghost use Rattle.std.specs.List.{AllByRecursion};
 ghost use Rattle.ts_packet.specs.Header.{pid_of};
 ghost use Rattle.ts_demux.specs.SectionsOfPid.{sections_of_pid};
-ghost use Rattle.section_flow.specs.Flow.{Edit, GivesSections, IsClear, all_given, edited_of, is_empty, replaced, waiting_after};
+ghost use Rattle.ts_demux.specs.TablesOn.{packets_on};
+ghost use Rattle.section_flow.specs.Flow.{Edit, GivesSections, IsClear, all_given, completed_by, edited_of, is_empty, replaced, waiting_after};
+ghost use Rattle.section_flow.specs.FlowStands.{StandsFor};
+ghost use Rattle.section_flow.specs.declared.flow.Flow.{Flow as GivenFlow};
+
+use ts_demux::other_packets_change_nothing;
 
 /// A packet of another PID is untouched. A law: it runs nothing.
 pub fn other_packets_are_untouched()
@@ -27,4 +32,22 @@ pub fn edited_sections_are_read()
     ensures { (pid : ℕ) (edit : Edit) (met : List (List ℕ)) → pid < 8191 → GivesSections edit
         → AllByRecursion (λ packet. IsClear pid packet) met → is_empty (waiting_after pid edit met) ≡ true
         → sections_of_pid pid (all_given pid edit met) ≡ edited_of pid edit met }
+{}
+
+/// A flow stands for a packet of another PID too, where it is left as it is. A law: it runs nothing.
+pub fn packets_of_other_pids_change_nothing()
+    ensures { (flow : GivenFlow) (pid : ℕ) (edit : Edit) (met : List (List ℕ)) (packet : List ℕ) → StandsFor flow pid edit met
+        → (pid_of packet == pid) ≡ false → StandsFor flow pid edit (met ++ packet ∷ []) }
+{
+    // A law, which runs nothing.
+    other_packets_change_nothing();
+}
+
+/// Where the edit is the same whatever was met, packets of other PIDs do not matter: a packet completes the sections that it
+/// completes among the packets of the PID alone, and what leaves in its place is what leaves there. A law: it runs nothing.
+pub fn an_edit_that_stays_goes_by_one_pid()
+    ensures completed { (pid : ℕ) (met : List (List ℕ)) (packet : List ℕ) → (pid_of packet == pid) ≡ true
+        → completed_by pid met packet ≡ completed_by pid (packets_on pid met) packet }
+    ensures replaced { (pid : ℕ) (now : List ℕ → Option (List ℕ)) (met : List (List ℕ)) (packet : List ℕ) → (pid_of packet == pid) ≡ true
+        → replaced pid (λ _. now) met packet ≡ replaced pid (λ _. now) (packets_on pid met) packet }
 {}

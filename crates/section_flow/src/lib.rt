@@ -13,4 +13,7 @@ mod room;
 
 pub use edit::{SectionChange, SectionEdit};
 pub use flow::Flow;
-pub use laws::{each_place_by_itself, edited_sections_are_read, other_packets_are_untouched};
+pub use laws::{
+    an_edit_that_stays_goes_by_one_pid, each_place_by_itself, edited_sections_are_read,
+    other_packets_are_untouched, packets_of_other_pids_change_nothing,
+};

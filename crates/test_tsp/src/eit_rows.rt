@@ -10,7 +10,7 @@ pub(crate) fn rows() -> &'static [Row] {
     &EIT_ROWS
 }
 
-static EIT_ROWS: [Row; 11] = [
+static EIT_ROWS: [Row; 12] = [
     Row {
         name: "a longer name takes the place of its text",
         words: "-I file in -P eit --service 7 --event 3 --name New -O file out",
@@ -92,6 +92,17 @@ static EIT_ROWS: [Row; 11] = [
         input: Input::Around(&[18, 18], &[Carried::Events(EventTable::Named)], &[18]),
         plan: ORDINARY,
     },
+    Row {
+        name: "eit by a name, from the SDT on by which the service has it",
+        words: "-I file in -P sdt --service 7 --name Seven -P eit --service Seven --remove -O file out",
+        input: Input::Tables(&[
+            Carried::Events(EventTable::Named),
+            Carried::Sdt,
+            Carried::Events(EventTable::Named),
+            Carried::Events(EventTable::OfEight),
+        ]),
+        plan: ORDINARY,
+    },
 ];
 
 /// Words of `eit` that are no command line.
@@ -99,7 +110,7 @@ pub(crate) fn of_words() -> &'static [Row] {
     &EIT_WORD_ROWS
 }
 
-static EIT_WORD_ROWS: [Row; 4] = [
+static EIT_WORD_ROWS: [Row; 5] = [
     Row {
         name: "eit without an edit",
         words: "-I null 2 -P eit --service 7 --event 3 -O drop",
@@ -121,6 +132,12 @@ static EIT_WORD_ROWS: [Row; 4] = [
     Row {
         name: "a running_status of eit above the greatest",
         words: "-I null 2 -P eit --service 7 --running-status 8 -O drop",
+        input: Input::Pids(&[]),
+        plan: ORDINARY,
+    },
+    Row {
+        name: "eit of the service 0",
+        words: "-I null 2 -P eit --service 0 --remove -O drop",
         input: Input::Pids(&[]),
         plan: ORDINARY,
     },

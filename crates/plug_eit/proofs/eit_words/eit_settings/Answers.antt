@@ -1,4 +1,5 @@
 use Rattle.std.proofs.Common.{◌≡◌, ◌∙◌, ap, refl, sym, unwrap_or}
+use Rattle.named_services.specs.declared.service_word.ServiceWord.TheVariants.{Number}
 use Rattle.plug_eit.specs.EitSettings.{eit_together}
 use Rattle.plug_eit.specs.EitWords.{eit, eit_rows, eit_settings}
 use Rattle.plug_eit.specs.declared.eit_conf.EitConf.{EitConf}
@@ -24,7 +25,7 @@ returns-in_err-free_ca_mode-clause-reads c =
 pub returns-then-not-goes_together-clause-reads : goal.returns-then-not-goes_together-clause-reads
 returns-then-not-goes_together-clause-reads c =
     let conf : EitConf = record { service = c.in-Some.service; event = c.in_ok-event.event; name = c.in_ok-name.name; text = c.in_ok-text.text; shift = c.in_ok-shift.shift; running_status = c.in_ok-running_status.running_status; free_ca_mode = c.in_ok-free_ca_mode.free_ca_mode; remove = c.has_flag.result } in
-    let service : c.in-Some.service ≡ (eit_settings c.args.found.now).service = ap (λ o. unwrap_or o 0) (sym c.in-Some.is ∙ c.in_ok-service.ensures.reads.1) in
+    let service : c.in-Some.service ≡ (eit_settings c.args.found.now).service = ap (λ o. unwrap_or o (Number 0)) (sym c.in-Some.is ∙ c.in_ok-service.ensures.reads.1) in
     let same : conf ≡ eit_settings c.args.found.now = same_fields service c.in_ok-event.ensures.reads.1 c.in_ok-name.ensures.reads c.in_ok-text.ensures.reads c.in_ok-shift.ensures.reads.1 c.in_ok-running_status.ensures.reads.1 c.in_ok-free_ca_mode.ensures.reads.1 c.has_flag.ensures in
     conflict_broken eit c.args.found.now (sym c.is_needed_given.ensures ∙ c.if-not-is_needed_given.false)
     (all_true _ _ c.in_ok-service.ensures.reads.0 (all_true _ _ c.in_ok-event.ensures.reads.0 (all_true _ _ c.in_ok-name.ensures.formed (all_true _ _ c.in_ok-text.ensures.formed (all_true _ _ c.in_ok-shift.ensures.reads.0 (all_true _ _ c.in_ok-running_status.ensures.reads.0 (all_true _ _ c.in_ok-free_ca_mode.ensures.reads.0 refl)))))))
@@ -33,7 +34,7 @@ returns-then-not-goes_together-clause-reads c =
 pub returns-clause-reads : goal.returns-clause-reads
 returns-clause-reads c =
     let conf : EitConf = record { service = c.in-Some.service; event = c.in_ok-event.event; name = c.in_ok-name.name; text = c.in_ok-text.text; shift = c.in_ok-shift.shift; running_status = c.in_ok-running_status.running_status; free_ca_mode = c.in_ok-free_ca_mode.free_ca_mode; remove = c.has_flag.result } in
-    let service : c.in-Some.service ≡ (eit_settings c.args.found.now).service = ap (λ o. unwrap_or o 0) (sym c.in-Some.is ∙ c.in_ok-service.ensures.reads.1) in
+    let service : c.in-Some.service ≡ (eit_settings c.args.found.now).service = ap (λ o. unwrap_or o (Number 0)) (sym c.in-Some.is ∙ c.in_ok-service.ensures.reads.1) in
     let same : conf ≡ eit_settings c.args.found.now = same_fields service c.in_ok-event.ensures.reads.1 c.in_ok-name.ensures.reads c.in_ok-text.ensures.reads c.in_ok-shift.ensures.reads.1 c.in_ok-running_status.ensures.reads.1 c.in_ok-free_ca_mode.ensures.reads.1 c.has_flag.ensures in (
       nothing_broken eit c.args.found.now (sym c.is_needed_given.ensures ∙ c.if-not-is_needed_given.false)
           (all_true _ _ c.in_ok-service.ensures.reads.0 (all_true _ _ c.in_ok-event.ensures.reads.0 (all_true _ _ c.in_ok-name.ensures.formed (all_true _ _ c.in_ok-text.ensures.formed (all_true _ _ c.in_ok-shift.ensures.reads.0 (all_true _ _ c.in_ok-running_status.ensures.reads.0 (all_true _ _ c.in_ok-free_ca_mode.ensures.reads.0 refl)))))))

@@ -1,5 +1,5 @@
--- A flow of sections, where a packet of another PID comes.
-use Rattle.std.proofs.Common.{◌≡◌, ℕ, ◌==◌, ◌&&◌, false, List, [], ◌∷◌, ◌++◌, drop, length, refl, sym, ◌∙◌, ap, append-nil, append_assoc, subst}
+-- A flow, where a packet of another PID comes.
+use Rattle.std.proofs.Common.{◌≡◌, ℕ, ◌==◌, ◌&&◌, false, List, [], ◌∷◌, ◌++◌, drop, length, refl, sym, ◌∙◌, ap, append-nil, subst}
 use Rattle.std.specs.Prelude.{is_some, not, if◌then◌else◌}
 use Rattle.std.specs.List.{filter_map}
 use Rattle.ts_packet.specs.Header.{error_indicator_of, pid_of, scrambling_of}
@@ -8,28 +8,19 @@ use Rattle.ts_demux.specs.CountedPackets.{counts}
 use Rattle.ts_demux.specs.DemuxState as demuxing
 use Rattle.ts_demux.specs.DemuxState.{DemuxState, TakesIn}
 use Rattle.ts_demux.specs.SectionsOfPid.{sections_of_pid}
-use Rattle.section_flow.specs.Flow.{Edit, Given, Waiting, completed_by, given_after, given_for, next_given, nothing_waits, passed, ready_with, waiting_after, waiting_from, with_sections}
+use Rattle.section_flow.specs.Flow.{Edit, Given, Waiting, completed_by, given_for, next_given, nothing_waits, passed, ready_with, waiting_after, with_sections}
 use Rattle.section_flow.specs.FlowState.{Holds}
 use Rattle.section_flow.specs.FlowStands as flowing
 use Rattle.section_flow.specs.declared.flow.Flow.{Flow}
+use Rattle.section_flow.proofs.FlowLemmas.{waiting_from-more}
 
--- one packet more at the end
-waiting-more :
-    (pid : ℕ) (edit : Edit) (met : List (List ℕ)) (waiting : Waiting) (packets : List (List ℕ)) (packet : List ℕ) →
-    waiting_from pid edit met waiting (packets ++ packet ∷ []) ≡ (given_after pid edit (met ++ packets) (waiting_from pid edit met waiting packets) packet).waiting
-unfolding waiting_from
-waiting-more pid edit met waiting [] packet = ap (λ m. (given_after pid edit m waiting packet).waiting) (sym (append-nil met))
-waiting-more pid edit met waiting (p ∷ packets) packet =
-    let next = (given_after pid edit met waiting p).waiting in
-    waiting-more pid edit (met ++ p ∷ []) next packets packet
-    ∙ ap (λ m. (given_after pid edit m (waiting_from pid edit (met ++ p ∷ []) next packets) packet).waiting) (append_assoc met (p ∷ []) packets)
-
-drop-all : (xs : List (List ℕ)) → drop (length xs) xs ≡ []
+-- nothing is left behind all
+pub drop-all : (xs : List (List ℕ)) → drop (length xs) xs ≡ []
 drop-all [] = refl
 drop-all (x ∷ xs) = drop-all xs
 
 -- sections that join none
-none-join : (waiting : Waiting) → with_sections waiting [] ≡ waiting
+pub none-join : (waiting : Waiting) → with_sections waiting [] ≡ waiting
 none-join waiting = λ i. record { rest = waiting.rest; sections = append-nil waiting.sections i; number = waiting.number }
 
 module _ (flow : Flow) (pid : ℕ) (edit : Edit) (met : List (List ℕ)) (p : List ℕ) (h : flowing.StandsFor flow pid edit met) (other : (pid_of p == pid) ≡ false) where
@@ -51,7 +42,7 @@ module _ (flow : Flow) (pid : ℕ) (edit : Edit) (met : List (List ℕ)) (p : Li
     same_waiting : waiting_after pid edit (met ++ p ∷ []) ≡ waiting_after pid edit met
     unfolding given_for
     same_waiting =
-        waiting-more pid edit [] nothing_waits met p
+        waiting_from-more pid edit [] nothing_waits met p
         ∙ ap (λ b. (if b then (if scrambling_of p == 0 then next_given pid (with_sections (waiting_after pid edit met) (ready_with pid edit met p))
         else passed pid (with_sections (waiting_after pid edit met) (ready_with pid edit met p)) p)
         else (let given : Given = record { packet = p; waiting = with_sections (waiting_after pid edit met) (ready_with pid edit met p) } in given)).waiting) other

@@ -1,0 +1,4 @@
+-- The lemmas of `followed_services`.
+pub mod NumberLemmas
+mod OptionLemmas
+mod Rows

@@ -1,0 +1,3 @@
+-- The definitions of one service of a command line.
+pub mod ServiceNumbers
+pub mod NumberStands
