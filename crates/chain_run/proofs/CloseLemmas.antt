@@ -35,6 +35,7 @@ use Rattle.stage_run.specs.PartStands.{PartStands, PartGives, rule_of, source_ki
 use Rattle.stage_run.specs.OutputStands.{SinkTook}
 use Rattle.stage_run.specs.HeardSince.{HeardSince}
 use Rattle.stage_run.specs.Parts.{IsSourceOf, IsSinkOf, FailedReading, LeavesSource, LeavesInput, LeavesOutput}
+use Rattle.stage_run.specs.SourceNow.{WasReadOf}
 use Rattle.plugin_trait.specs.Steps.{IsPreallocatedFor}
 use Rattle.chain_run.specs.Met.{AllMetFirst}
 use Rattle.chain_run.specs.Rooms.{WantsMemory}
@@ -217,22 +218,31 @@ module _ {S K P : Type 0} (see : Seeing S K P)
 
     -- ---- the input
 
-    pub left-input : (made_from : InputPart S) → source_kind made_from ≡ source_kind begun.from → LeavesInput see.source made_from begun.stuffing (goes.lists 0) (state.stages 0).ended → LeftInput see.source begun.stuffing begun.plan.buffer begun.from made_from cut why
-    left-input made_from same left =
+    pub left-input : (made_from : InputPart S) → source_kind made_from ≡ source_kind begun.from → LeavesInput see.source made_from begun.stuffing (goes.lists 0) (state.stages 0).ended
+        → WasReadOf see.source made_from begun.stuffing (goes.lists 0) → LeftInput see.source begun.stuffing begun.plan.buffer begun.from made_from cut why
+    left-input made_from same left was =
+        let own : length (goes.lists 0).given ≡ length (state.stages 0).given = ap (λ (l : List Cell). length l) (by.stands 0 (omega arith)).given_is in
+        let far' : cut ≤ length (state.stages 0).given = at-close.reached 0 (omega arith) in
         cases begun.from made_from same at-input.source left read-told
         (may_read-more begun.plan.buffer (written_of begun.plan (progress_of_stages state)) cut (length (goes.lists 0).read) written-cut at-input.within)
-        (ap (λ (l : List Cell). length l) (by.stands 0 (omega arith)).given_is)
+        own was (omega arith)
       where
+        farther : {A : Type 0} {n m : ℕ} → (A ⊎ (n ≤ m)) → cut ≤ n → A ⊎ (cut ≤ m)
+        farther (inl a) le = inl a
+        farther (inr few) le = inr (omega (arith, few, le))
+
         cases : (from made : InputPart S) → source_kind made ≡ source_kind from → IsSourceOf see.source from (goes.lists 0).source → LeavesInput see.source made begun.stuffing (goes.lists 0) (state.stages 0).ended
             → (why ≡ cause.Input ReadFault → ((state.stages 0).ended ≡ Some (Input ReadFault)) × (length (state.stages 0).given ≡ cut)) → MayRead begun.plan.buffer cut (length (goes.lists 0).read) → length (goes.lists 0).given ≡ length (state.stages 0).given
+            → WasReadOf see.source made begun.stuffing (goes.lists 0) → cut ≤ length (goes.lists 0).given
             → LeftInput see.source begun.stuffing begun.plan.buffer from made cut why
-        cases (input.Stream old) (input.Stream new) has source leaves told within given =
+        cases (input.Stream old) (input.Stream new) has source leaves told within given was le =
             let left' : LeavesSource begun.stuffing (see.source old) (see.source new) (goes.lists 0) (state.stages 0).ended =
             subst (λ (v : SourceView). LeavesSource begun.stuffing v (see.source new) (goes.lists 0) (state.stages 0).ended) source leaves in
             record {
               read = (goes.lists 0).read;
               source = source-left begun.stuffing (see.source old) (see.source new) (goes.lists 0) (state.stages 0).ended left';
               within = within;
+              reach = farther was.reach le;
               at_fault = λ is. (let t = told is in
                   let f : FailedReading begun.stuffing (see.source old) (see.source new) (goes.lists 0) = subst (λ e. LeavesSource begun.stuffing (see.source old) (see.source new) (goes.lists 0) e) t.0 left' in
                   record {
@@ -241,14 +251,14 @@ module _ {S K P : Type 0} (see : Seeing S K P)
                     cut_is = sym t.1 ∙ (sym given ∙ ap (λ (l : List Cell). length l) f.given);
                   });
             }
-        cases (input.Nulls old) (input.Nulls new) has source leaves told within given = λ is. leaves (told is).0
-        cases (input.Generated old packets) (input.Generated new same) has source leaves told within given = λ is. leaves (told is).0
-        cases (input.Stream old) (input.Nulls new) has source leaves told within given = let e : null_packets ≡ a_stream = has in cc
-        cases (input.Stream old) (input.Generated new packets) has source leaves told within given = let e : generated_packets ≡ a_stream = has in cc
-        cases (input.Nulls old) (input.Stream new) has source leaves told within given = let e : a_stream ≡ null_packets = has in cc
-        cases (input.Nulls old) (input.Generated new packets) has source leaves told within given = let e : generated_packets ≡ null_packets = has in cc
-        cases (input.Generated old packets) (input.Stream new) has source leaves told within given = let e : a_stream ≡ generated_packets = has in cc
-        cases (input.Generated old packets) (input.Nulls new) has source leaves told within given = let e : null_packets ≡ generated_packets = has in cc
+        cases (input.Nulls old) (input.Nulls new) has source leaves told within given was le = λ is. leaves (told is).0
+        cases (input.Generated old packets) (input.Generated new same) has source leaves told within given was le = λ is. leaves (told is).0
+        cases (input.Stream old) (input.Nulls new) has source leaves told within given was le = let e : null_packets ≡ a_stream = has in cc
+        cases (input.Stream old) (input.Generated new packets) has source leaves told within given was le = let e : generated_packets ≡ a_stream = has in cc
+        cases (input.Nulls old) (input.Stream new) has source leaves told within given was le = let e : a_stream ≡ null_packets = has in cc
+        cases (input.Nulls old) (input.Generated new packets) has source leaves told within given was le = let e : generated_packets ≡ null_packets = has in cc
+        cases (input.Generated old packets) (input.Stream new) has source leaves told within given was le = let e : a_stream ≡ generated_packets = has in cc
+        cases (input.Generated old packets) (input.Nulls new) has source leaves told within given was le = let e : null_packets ≡ generated_packets = has in cc
 
     -- ---- the output
 

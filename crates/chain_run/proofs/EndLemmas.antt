@@ -130,7 +130,8 @@ module _ {S K P : Type 0} (see : Seeing S K P) where
           closes = at.pure_or_fault;
           input = left-input see laws begun parts goes over chosen.list gives made_from
               (back.in_stream ∙ (ap stream_kind is-first ∙ ((by.stands 0 (omega arith)).input refl).stream))
-              (back.in_leaves (goes.lists 0) (state.stages 0).ended (stuffing_of stuffing) first-stands (ap stuffing_in is-first ∙ ((by.stands 0 (omega arith)).input refl).stuffing_is));
+              (back.in_leaves (goes.lists 0) (state.stages 0).ended (stuffing_of stuffing) first-stands (ap stuffing_in is-first ∙ ((by.stands 0 (omega arith)).input refl).stuffing_is))
+              (back.in_read (goes.lists 0) (state.stages 0).ended (stuffing_of stuffing) first-stands (ap stuffing_in is-first ∙ ((by.stands 0 (omega arith)).input refl).stuffing_is));
           output = left-output see laws begun parts goes over chosen.list gives made_to
               (back.out_stream ∙ (ap stream_kind is-last ∙ ((by.stands (suc plan.plugins) (omega arith)).output refl).stream))
               (back.out_leaves (goes.lists (suc plan.plugins)) (state.stages (suc plan.plugins)).ended last-stands);

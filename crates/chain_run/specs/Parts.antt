@@ -10,6 +10,7 @@ use Rattle.stage_run.specs.HeardSince.{HeardSince}
 use Rattle.stage_run.specs.PartLists.{PartLists, fresh_lists}
 use Rattle.stage_run.specs.PartStands.{PartStands, PartGives, kind_of, rule_of, preallocated_of, stuffing_in, source_kind, sink_kind, stream_kind, an_input, a_plugin, an_output}
 use Rattle.stage_run.specs.Parts.{LeavesInput, LeavesOutput, SomeList}
+use Rattle.stage_run.specs.SourceNow.{WasReadOf}
 use Rattle.stage_run.specs.declared.input_part.InputPart.{InputPart}
 use Rattle.stage_run.specs.declared.output_part.OutputPart.{OutputPart}
 use Rattle.chain_model.specs.Stuffed as model
@@ -66,6 +67,9 @@ module _ {S K P : Type 0} (see : Seeing S K P) where
     pub in_leaves : (lists : PartLists) (told : Option StageEnd) (stuffing : model.Stuffing)
         → PartStands see first lists told → stuffing_in first ≡ Some stuffing
         → LeavesInput see.source input stuffing lists told
+    pub in_read : (lists : PartLists) (told : Option StageEnd) (stuffing : model.Stuffing)
+        → PartStands see first lists told → stuffing_in first ≡ Some stuffing
+        → WasReadOf see.source input stuffing lists
     pub some_list : (lists : PartLists) (told : Option StageEnd) → PartStands see first lists told
         → SomeList (PartGives see first lists)
     pub taken : AreTakenFrom rest plugins

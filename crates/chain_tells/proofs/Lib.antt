@@ -6,3 +6,6 @@ pub mod TellLemmas
 pub mod LiveLemmas
 pub mod Rows
 pub mod PrintingLemmas
+pub mod InputLemmas
+pub mod RoundLemmas
+pub mod PrintingRoundLemmas

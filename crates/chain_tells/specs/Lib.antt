@@ -4,3 +4,6 @@ pub mod Taking
 pub mod Telling
 pub mod Live
 pub mod Printing
+pub mod Rounds
+pub mod PrintingRounds
+pub mod InputLines

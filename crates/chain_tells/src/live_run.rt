@@ -149,7 +149,7 @@ fn run_begun<S: Source, K: Sink, P: Plugin, G: Gate, D: Desk, L: LineTexts>(
 }
 
 /// Where there was no memory for a run, its stages come back.
-fn never_ran<S, K, P>(stages: Stages<S, K, P>) -> LiveEnd<S, K, P>
+pub(crate) fn never_ran<S, K, P>(stages: Stages<S, K, P>) -> LiveEnd<S, K, P>
     ensures never { NeverBegan stages.input result.end.input
         stages.plugins.items result.end.plugins.items stages.output result.end.output }
     ensures closed { is_err result.end.closed ≡ true }

@@ -31,7 +31,7 @@ pub fn printing_well() -> Printing
 }
 
 /// Whether nothing more is printed.
-fn is_over(printing: &Printing) -> bool
+pub(crate) fn is_over(printing: &Printing) -> bool
     ensures { result ≡ (printing.now.wants || printing.now.failed) }
 {
     printing.wants || printing.failed

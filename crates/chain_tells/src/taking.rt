@@ -3,6 +3,7 @@
 //! Memory is taken only while the plugins are given their mark. Where it runs out there, no line was taken away: so no line is
 //! ever lost.
 ghost use Rattle.std.specs.Prelude.{◌≡◌, ◌+◌, ◌<◌, ◌≤◌, ◌++◌, ℕ, suc, List, length, drop, IfOk, OnErr};
+ghost use Rattle.std.specs.List.{AllByRecursion};
 ghost use Rattle.chain_model.specs.Reports.{NamedRule};
 ghost use Rattle.chain_core.specs.CoreNumbers.{progress_of_core};
 ghost use Rattle.stage_run.specs.Seeing.{seeing};
@@ -10,6 +11,7 @@ ghost use Rattle.chain_rounds.specs.declared.told_line.ToldLine.{ToldLine};
 ghost use Rattle.chain_run.specs.Runs.{RunStart};
 ghost use Rattle.chain_run.specs.Working.{IsRunning, RunsSomehow};
 ghost use Rattle.chain_tells.specs.Taking.{StillRuns, Marks, GivesLines, TakesLines};
+ghost use Rattle.chain_tells.specs.Rounds.{IsWithin};
 ghost use Rattle.chain_tells.specs.Telling.{Tells};
 ghost use Rattle.chain_tells.specs.Waiting.{told_rows, waiting};
 
@@ -139,6 +141,12 @@ pub fn take_told<S: Source, K: Sink, P: Plugin>(
         Tells see begun plugins name_of taken before told chain.old.core chain.old.parts.items chain.old.cells.items
         → OnErr result (Tells see begun plugins name_of taken before told
         chain.new.core chain.new.parts.items chain.new.cells.items) }
+    ensures within { (begun : RunStart S K) (plugins : List NamedRule) (name_of : ℕ → List ℕ) (before : ℕ)
+        (told : List ToldLine)
+        → let see = seeing S.seen K.seen P.rule P.stands_for P.preallocated in
+        Tells see begun plugins name_of (λ _. before) before told
+        chain.old.core chain.old.parts.items chain.old.cells.items
+        → IfOk result (λ _. AllByRecursion (IsWithin before (progress_of_core chain.old.core (suc begun.plan.plugins)).given) (waiting lines.new)) }
     ensures runs { RunsSomehow (seeing S.seen K.seen P.rule P.stands_for P.preallocated) chain.new }
     ensures core { chain.new.core ≡ chain.old.core }
     ensures parts { length chain.new.parts.items ≡ length chain.old.parts.items }

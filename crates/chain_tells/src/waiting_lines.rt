@@ -69,7 +69,9 @@ fn add_rows(alloc: Global, rows: &mut Vec<LineRow>, plugins: usize) -> Result<()
 }
 
 impl WaitingLines {
-    ghost use Rattle.std.specs.Prelude.{◌≡◌, ◌<◌, [], ◌∷◌, length, slice_set, true, false, IfSome, IfNone, IfOk};
+    ghost use Rattle.std.specs.Prelude.{◌≡◌, ◌<◌, [], ◌∷◌, length, slice_get, slice_set, true, false, IfSome, IfNone, IfOk};
+    ghost use Rattle.std.specs.Option.{option_map};
+    ghost use Rattle.chain_rounds.specs.Told.{place_of};
     ghost use Rattle.chain_tells.specs.Waiting.{waiting};
     ghost use Rattle.chain_tells.specs.declared.line_row.LineRow.{LineRow};
 
@@ -99,6 +101,16 @@ impl WaitingLines {
         ensures no { result ≡ false → 0 < length (waiting self.now) }
     {
         next_row(&self.rows, 0).is_none()
+    }
+
+    /// The position of the next line, if one waits.
+    pub fn next_at(&self) -> Option<u64>
+        ensures { result ≡ option_map place_of (slice_get (waiting self.now) 0) }
+    {
+        match next_row(&self.rows, 0) {
+            Some(next) => Some(next.at),
+            None => None,
+        }
     }
 
     /// Removes and returns the next line: the one at the lowest position, and of several at one position that of the first

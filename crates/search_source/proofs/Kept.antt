@@ -17,6 +17,7 @@ use Rattle.search_source.specs.Gaps.{counted, gap_before, gaps_from}
 use Rattle.search_source.specs.Coming.{Coming, ungiven, found_in, coming_from}
 use Rattle.search_source.specs.SearchView.{SearchView, plain}
 use Rattle.search_source.specs.Kept.{beside, all_beside, with_gaps, KeptThrough, KeptTo, GapsTo, KeptOf}
+use Rattle.search_source.specs.Since.{Rising}
 use Rattle.search_source.proofs.Counting.{counted-small}
 use Rattle.search_source.proofs.Through.{same-units}
 
@@ -108,13 +109,12 @@ counted-same n m top same few = omega arith
 number-past : (all number later given begun : ℕ) → 188 * all ≡ given + (begun + 188 * later) → number + later ≡ all → given ≤ 188 * number
 number-past all number later given begun sizes same = omega arith
 
-pub kept-from : (form : Form) (due tail : ℕ) (near : Bool) (left number : ℕ) (bytes file given : List ℕ) (gaps : List Gap) → length file < 2 ^ 63
+pub behind-from : (form : Form) (due tail : ℕ) (near : Bool) (left number : ℕ) (bytes file given : List ℕ) → length file < 2 ^ 63
     → (found_in form file).bytes ≡ given ++ (coming_from form due tail near left number bytes).bytes
     → (found_in form file).packets ≡ (coming_from form due tail near left number bytes).packets
-    → (found_in form file).gaps ≡ gaps ++ (coming_from form due tail near left number bytes).gaps
-    → KeptOf form file given gaps
+    → AllByRecursion (λ (gap : Gap). length given ≤ 188 * gap.before) (coming_from form due tail near left number bytes).gaps
 unfolding coming_from search
-kept-from form due tail near left number bytes file given gaps small bytes_are packets_are gaps_are =
+behind-from form due tail near left number bytes file given small bytes_are packets_are =
     let all : List Found = (search_from form 0 true 0 file).found in
     let later : List Found = (search_from form 0 near left (drop (due + tail) bytes)).found in
     let long : length (concat (packets_in all)) ≡ 188 * length all = found-long form true 0 file in
@@ -129,12 +129,56 @@ kept-from form due tail near left number bytes file given gaps small bytes_are p
     let same : number + length later ≡ length all = counted-same (length all) (number + length later) count_end packets_are few in
     let past : length given ≤ 188 * number = number-past (length all) number (length later) (length given) (length begun) sizes same in
     let known : number ≤ count_end = omega arith in
+    all-weaker (λ (gap : Gap). number ≤ gap.before) (λ (gap : Gap). length given ≤ 188 * gap.before) (gaps_from number later)
+    (λ gap more. omega arith)
+    (gaps-from-on number number later (let e : counted number ≡ number = counted-small number known in omega arith))
+
+-- where all bytes of packets were given, no gap comes any more
+none-found : (number : ℕ) (found : List Found) → length found ≡ 0 → gaps_from number found ≡ []
+unfolding gaps_from
+none-found number [] none = refl
+none-found number (each ∷ found) none = absurd (omega arith)
+
+pub none-left : (form : Form) (due tail : ℕ) (near : Bool) (left number : ℕ) (bytes file given : List ℕ)
+    → (found_in form file).bytes ≡ given ++ (coming_from form due tail near left number bytes).bytes → length (found_in form file).bytes ≤ length given
+    → (coming_from form due tail near left number bytes).gaps ≡ []
+unfolding coming_from search
+none-left form due tail near left number bytes file given bytes_are all =
+    let later : List Found = (search_from form 0 near left (drop (due + tail) bytes)).found in
+    let long_later : length (concat (packets_in later)) ≡ 188 * length later = found-long form near left (drop (due + tail) bytes) in
+    let begun : List ℕ = take due bytes in
+    let sum : length (found_in form file).bytes ≡ length given + (length begun + length (concat (packets_in later))) =
+    ap length bytes_are ∙ length-append given (begun ++ concat (packets_in later))
+    ∙ ap (λ (n : ℕ). length given + n) (length-append begun (concat (packets_in later))) in
+    none-found number later (omega (arith, sum, all, long_later))
+
+-- gaps rise with the packets behind them
+one-rising : (number least left_out : ℕ) (rest : List Gap) → least ≤ counted number → Rising least rest → Rising (counted number) rest → Rising least (gap_before number left_out ++ rest)
+unfolding gap_before
+one-rising number least zero rest few behind from = behind
+one-rising number least (suc n) rest few behind from = (few, from)
+
+rising-from : (number least : ℕ) (found : List Found) → least ≤ counted number → Rising least (gaps_from number found)
+unfolding gaps_from
+rising-from number least [] few = tt
+rising-from number least (each ∷ found) few =
+    let next : counted number ≤ counted (suc number) = counted-le number (suc number) count_end (omega arith) in
+    one-rising number least each.left_out (gaps_from (suc number) found) few
+    (rising-from (suc number) least found (omega (arith, few, next))) (rising-from (suc number) (counted number) found next)
+
+pub gaps-rise : (form : Form) (file : List ℕ) → Rising 0 (found_in form file).gaps
+gaps-rise form file = rising-from 0 0 (search form file).found (omega arith)
+
+kept-from : (form : Form) (due tail : ℕ) (near : Bool) (left number : ℕ) (bytes file given : List ℕ) (gaps : List Gap) → length file < 2 ^ 63
+    → (found_in form file).bytes ≡ given ++ (coming_from form due tail near left number bytes).bytes
+    → (found_in form file).packets ≡ (coming_from form due tail near left number bytes).packets
+    → (found_in form file).gaps ≡ gaps ++ (coming_from form due tail near left number bytes).gaps
+    → KeptOf form file given gaps
+kept-from form due tail near left number bytes file given gaps small bytes_are packets_are gaps_are =
     record {
-      later = gaps_from number later;
+      later = (coming_from form due tail near left number bytes).gaps;
       all_are = gaps_are;
-      behind = all-weaker (λ (gap : Gap). number ≤ gap.before) (λ (gap : Gap). length given ≤ 188 * gap.before) (gaps_from number later)
-          (λ gap more. omega arith)
-          (gaps-from-on number number later (let e : counted number ≡ number = counted-small number known in omega arith));
+      behind = behind-from form due tail near left number bytes file given small bytes_are packets_are;
     }
 
 -- where the file is told
@@ -207,6 +251,18 @@ gaps-told form due tail near left number hand file gaps behind over (Some rest) 
             behind_of ∙ ap (λ (h : List ℕ). counted (search_from form 0 near left h).behind) nothing ∙ behind_is,
           );
     }
+
+-- the same of the end alone, whichever gaps were kept
+pub behind-told : (form : Form) (due tail : ℕ) (near : Bool) (left number : ℕ) (noted : List Gap) (hand file : List ℕ) (behind : ℕ) (inner : Option (List ℕ))
+    → counted left ≡ behind → (hand ≡ []) × (told_length inner ≡ 0)
+    → Some (found_in form file).behind ≡ option_map (λ (c : Coming). c.behind) (option_map (λ rest. ungiven [] noted (coming_from form due tail near left number (hand ++ rest))) inner)
+    → (found_in form file).behind ≡ behind
+unfolding coming_from search_from
+behind-told form due tail near left number noted hand file behind None behind_is over same = absurd cc
+behind-told form due tail near left number noted hand file behind (Some rest) behind_is over same =
+    let nothing : drop (due + tail) (hand ++ rest) ≡ [] = nothing-here due tail hand rest over.0 over.1 in
+    ap (λ (o : Option ℕ). unwrap_or o 0) same
+    ∙ ap (λ (h : List ℕ). counted (search_from form 0 near left h).behind) nothing ∙ behind_is
 
 pub gaps-to : (form : Form) (file : List ℕ) (gaps : List Gap) (number behind : ℕ) (over : Bool) (new : SearchView) (inner : SourceView)
     → new.origin ≡ record { unit = 6 * unit form; bytes = Some file } → length file < 2 ^ 63 → KeptTo new inner false gaps number behind over → GapsTo form file gaps number behind over

@@ -4,3 +4,4 @@ pub mod Filled
 pub mod Views
 pub mod Through
 pub mod Kept
+pub mod SinceLemmas

@@ -8,6 +8,7 @@ use Rattle.search_source.specs.declared.file_source.FileSource.TheVariants.{Plac
 use Rattle.search_source.specs.declared.file_source.KeptGaps.{KeptGaps}
 use Rattle.search_source.specs.SearchView.{SearchView, plain}
 use Rattle.search_source.specs.Kept.{KeptTo}
+use Rattle.search_source.specs.Since.{EndsKnown}
 
 -- what is seen of the one that it is
 abbrev pub of_either : {P F A : Type 0} → (P → A) → (F → A) → FileSource P F → A
@@ -21,3 +22,4 @@ EndsAs outer inner None = ReadsThrough outer inner
 EndsAs outer inner (Some kept) =
     (view : SearchView) × (outer ≡ plain view) × (outer.origin.unit ≡ deciding_bytes kept.form)
     × KeptTo view inner kept.lost kept.gaps.items kept.number kept.behind kept.over
+    × EndsKnown kept.form outer.origin.bytes kept.behind kept.over

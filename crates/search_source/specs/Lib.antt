@@ -4,3 +4,4 @@ pub mod Coming
 pub mod SearchView
 pub mod Kept
 pub mod FileView
+pub mod Since

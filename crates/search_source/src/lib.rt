@@ -15,6 +15,6 @@ mod search_source;
 pub use file_source::{FileParts, FileSource, KeptGaps};
 pub use gap::Gap;
 pub use gap_counts::GapCounts;
-pub use laws::{gaps_of_a_file, gaps_so_far, what_was_read};
+pub use laws::{gaps_noted_so_far, gaps_of_a_file, gaps_so_far, what_was_read};
 pub use noted_source::{NotedParts, NotedSource};
 pub use search_source::SearchSource;

@@ -13,3 +13,4 @@ pub mod WorkLemmas
 pub mod PartLemmas
 pub mod PluginWorking
 pub mod OutputWorking
+pub mod SourceNowLemmas

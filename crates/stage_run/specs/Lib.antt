@@ -17,3 +17,4 @@ pub mod Noting
 pub mod Works
 pub mod RoomSize
 pub mod Parts
+pub mod SourceNow

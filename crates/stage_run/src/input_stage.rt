@@ -74,7 +74,7 @@ fn mark_live(marks: &mut [Mark], count: usize)
 }
 
 impl<S: Source> InputStage<S> {
-    ghost use Rattle.std.specs.Prelude.{◌≡◌, ◌≢◌, ℕ, ◌+◌, ◌%◌, ◌==◌, ◌<◌, ◌≤◌, ◌↔◌, [], length, take, if◌then◌else◌, Option, None, Some, IfSome, true, ◌^◌, ◌⊎◌};
+    ghost use Rattle.std.specs.Prelude.{◌≡◌, ◌≢◌, ℕ, ◌+◌, ◌%◌, ◌==◌, ◌<◌, ◌≤◌, ◌↔◌, [], length, take, if◌then◌else◌, Option, None, Some, IfSome, IfNone, true, ◌^◌, ◌⊎◌};
     ghost use Rattle.chain_model.specs.Apply.{StageList};
     ghost use Rattle.chain_core.specs.declared.stage_end.StageEnd.{StageEnd};
     ghost use Rattle.ts_outside.specs.Source.{SourceView};
@@ -86,7 +86,8 @@ impl<S: Source> InputStage<S> {
     ghost use Rattle.stage_run.specs.InputStands.{IsOpen, InputHolds, InputStands, MayGive, stuffing_of};
     ghost use Rattle.stage_run.specs.InputSteps.{InputFits, InputGoes, IsOver, cell_put, WantsRead, IsFilled, EndsAtLimit};
     ghost use Rattle.stage_run.specs.Parts.{IsListOf, IsSourceOf, IsUnused, LeavesInput, SomeList};
-    ghost use Rattle.stage_run.specs.PartStands.{MayWork, MayWorkOnSome, source_kind, feed_kind};
+    ghost use Rattle.stage_run.specs.PartStands.{MayWork, MayWorkOnSome, source_kind, feed_kind, a_stream};
+    ghost use Rattle.stage_run.specs.SourceNow.{WasRead, WasReadOf};
     ghost use Rattle.stage_run.specs.Works.{InputWork};
 
     /// An input that has neither read nor given anything.
@@ -115,6 +116,8 @@ impl<S: Source> InputStage<S> {
         ensures stream { source_kind result ≡ feed_kind self.feed }
         ensures leaves { (lists : PartLists) (told : Option StageEnd) → InputStands S.seen self lists told
             → LeavesInput S.seen result (stuffing_of self.stuffing) lists told }
+        ensures read { (lists : PartLists) (told : Option StageEnd) → InputStands S.seen self lists told
+            → WasReadOf S.seen result (stuffing_of self.stuffing) lists }
         ensures some_list { (lists : PartLists) (told : Option StageEnd) → InputStands S.seen self lists told
             → SomeList (MayGive S.seen self lists) }
     {
@@ -125,6 +128,16 @@ impl<S: Source> InputStage<S> {
             ended: _,
         } = self;
         feed.into_part()
+    }
+
+    /// The source that it reads, as it stands now.
+    pub(crate) fn source(&self) -> Option<&S>
+        ensures read { IfSome result (λ source. (lists : PartLists) (told : Option StageEnd) → InputStands S.seen self.now lists told
+            → WasRead (stuffing_of self.now.stuffing) lists.source (S.seen source.now) lists) }
+        ensures some { IfSome result (λ _. feed_kind self.now.feed ≡ a_stream) }
+        ensures none { IfNone result (feed_kind self.now.feed ≢ a_stream) }
+    {
+        self.feed.source()
     }
 
     /// Ensures that the next cell can be put: a null packet is due, a packet is ready, or the end is known.

@@ -18,10 +18,12 @@ pub(crate) enum PacketFeed<S> {
 }
 
 impl<S: Source> PacketFeed<S> {
-    ghost use Rattle.std.specs.Prelude.{◌≡◌, ◌+◌, ◌<◌, ◌≤◌, ℕ, List, length, take, None, IfNone, true};
+    ghost use Rattle.std.specs.Prelude.{◌≡◌, ◌≢◌, ◌+◌, ◌<◌, ◌≤◌, ℕ, List, length, take, None, IfNone, IfSome, true};
     ghost use Rattle.chain_model.specs.declared.positions.TheConstants.{POSITION_LIMIT};
     ghost use Rattle.ts_outside.specs.Source.{SourceView};
     ghost use Rattle.cell_rows.specs.Cells.{cell_of, cells_of};
+    ghost use Rattle.stage_run.specs.PartStands.{feed_kind, a_stream};
+    ghost use Rattle.stage_run.specs.SourceNow.{IsFedBy};
     ghost use Rattle.stage_run.specs.Feeds.{FeedStands, FeedHasRoom, FeedLooks, FeedPuts, FeedPutsAll, FeedReads, IsFeedOf, IsReady, WantsMore, packets_put, part_of_feed};
 
     /// The packets of an input of which nothing was read yet; what is read goes into the buffer.
@@ -56,6 +58,18 @@ impl<S: Source> PacketFeed<S> {
                 generator: generated.generator,
                 packets: generated.all,
             },
+        }
+    }
+
+    /// The source of its packets, if they come from one.
+    pub(crate) fn source(&self) -> Option<&S>
+        ensures fed { IfSome result (λ source. IsFedBy source.now self.now) }
+        ensures some { IfSome result (λ _. feed_kind self.now ≡ a_stream) }
+        ensures none { IfNone result (feed_kind self.now ≢ a_stream) }
+    {
+        match self {
+            PacketFeed::Stream(stream) => Some(&stream.source),
+            PacketFeed::Nulls(_) | PacketFeed::Generated(_) => None,
         }
     }
 

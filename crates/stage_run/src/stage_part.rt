@@ -23,7 +23,7 @@ pub enum StagePart<S, K, P> {
 }
 
 impl<S: Source, K: Sink, P: Plugin> StagePart<S, K, P> {
-    ghost use Rattle.std.specs.Prelude.{◌≡◌, ℕ, ◌+◌, ◌-◌, ◌<◌, ◌≤◌, ◌↔◌, [], length, drop, Option, None, Some};
+    ghost use Rattle.std.specs.Prelude.{◌≡◌, ◌≢◌, ℕ, ◌+◌, ◌-◌, ◌<◌, ◌≤◌, ◌↔◌, [], length, drop, Option, None, Some, IfSome, IfNone};
     ghost use Rattle.chain_model.specs.declared.positions.TheConstants.{POSITION_LIMIT};
     ghost use Rattle.chain_model.specs.Apply.{StageList};
     ghost use Rattle.chain_model.specs.Stuffed as model;
@@ -40,7 +40,8 @@ impl<S: Source, K: Sink, P: Plugin> StagePart<S, K, P> {
     ghost use Rattle.stage_run.specs.PartLists.{PartLists, fresh_lists, marked_by, lines_taken};
     ghost use Rattle.stage_run.specs.InputStands.{stuffing_of};
     ghost use Rattle.stage_run.specs.Parts.{IsListOf, IsSourceOf, IsSinkOf, IsUnused, LeavesInput, LeavesOutput, SomeList};
-    ghost use Rattle.stage_run.specs.PartStands.{PartStands, PartGives, MayWork, MayWorkOnSome, rule_of, preallocated_of, kind_of, stuffing_in, source_kind, sink_kind, stream_kind, an_input, a_plugin, an_output};
+    ghost use Rattle.stage_run.specs.SourceNow.{WasRead, WasReadOf};
+    ghost use Rattle.stage_run.specs.PartStands.{PartStands, PartGives, MayWork, MayWorkOnSome, rule_of, preallocated_of, kind_of, stuffing_in, source_kind, sink_kind, stream_kind, a_stream, an_input, a_plugin, an_output};
     ghost use Rattle.stage_run.specs.Works.{PartWork};
 
     /// The input's stage. It reads into the buffer. Nothing was read or given yet.
@@ -87,13 +88,16 @@ impl<S: Source, K: Sink, P: Plugin> StagePart<S, K, P> {
     }
 
     /// Returns the input. Whatever it stands for, some list may be that of the input, and each such list ends by an end of
-    /// the input.
+    /// the input; and what was read of its source reaches as far as the cells that it gave, or nothing of it is left.
     pub fn into_input(self) -> InputPart<S>
         requires { kind_of self ≡ an_input }
         ensures stream { source_kind result ≡ stream_kind self }
         ensures leaves { (lists : PartLists) (told : Option StageEnd) (stuffing : model.Stuffing)
             → PartStands (seeing S.seen K.seen P.rule P.stands_for P.preallocated) self lists told
             → stuffing_in self ≡ Some stuffing → LeavesInput S.seen result stuffing lists told }
+        ensures read { (lists : PartLists) (told : Option StageEnd) (stuffing : model.Stuffing)
+            → PartStands (seeing S.seen K.seen P.rule P.stands_for P.preallocated) self lists told
+            → stuffing_in self ≡ Some stuffing → WasReadOf S.seen result stuffing lists }
         ensures some_list { (lists : PartLists) (told : Option StageEnd)
             → PartStands (seeing S.seen K.seen P.rule P.stands_for P.preallocated) self lists told
             → SomeList (PartGives (seeing S.seen K.seen P.rule P.stands_for P.preallocated) self lists) }
@@ -101,6 +105,21 @@ impl<S: Source, K: Sink, P: Plugin> StagePart<S, K, P> {
         match self {
             StagePart::Input(stage) => stage.into_part(),
             _ => unreachable!(),
+        }
+    }
+
+    /// The source that an input reads, as it stands now; `None` of an input that reads none, and of any other part. What was read
+    /// of it has at least the cells that the part gave, or nothing of it is left.
+    pub fn source(&self) -> Option<&S>
+        ensures read { IfSome result (λ source. (lists : PartLists) (told : Option StageEnd) (stuffing : model.Stuffing)
+            → PartStands (seeing S.seen K.seen P.rule P.stands_for P.preallocated) self.now lists told
+            → stuffing_in self.now ≡ Some stuffing → WasRead stuffing lists.source (S.seen source.now) lists) }
+        ensures some { IfSome result (λ _. stream_kind self.now ≡ a_stream) }
+        ensures none { IfNone result (kind_of self.now ≡ an_input → stream_kind self.now ≢ a_stream) }
+    {
+        match self {
+            StagePart::Input(stage) => stage.source(),
+            _ => None,
         }
     }
 

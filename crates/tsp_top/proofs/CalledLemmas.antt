@@ -15,6 +15,7 @@ use Rattle.stage_run.specs.declared.stuffing.Stuffing.{Stuffing}
 use Rattle.plugin_trait.specs.declared.heard.Heard.{Heard}
 use Rattle.stage_run.specs.Seeing.{Seeing, heard_rule}
 use Rattle.ts_outside.specs.Source.{SourceView}
+use Rattle.search_source.specs.declared.gap_counts.GapCounts.{GapCounts}
 use Rattle.ts_outside.specs.Desk.{DeskView}
 use Rattle.tsp_top.specs.PlannedChain.{named_rules}
 use Rattle.tsp_top.specs.PlannedTables.{tables_asked}
@@ -69,11 +70,11 @@ module _ {S K P : Type 0} (see : Seeing S K P) (stands : Heard P → List Cell �
 -- the same of a run whose lines were printed while it went
 module _ {S K P : Type 0} (see : Seeing S K P) (inner : S → SourceView) (plan : Plan) (core : CorePlan) (old made printed : DeskView)
     (from made_from : InputPart S) (stuffing : Stuffing) (plugins back : List (Heard P)) (to made_to : OutputPart K)
-    (failed whole : Bool) (closed : Result Closed AllocError)
+    (failed whole : Bool) (counts : GapCounts) (closed : Result Closed AllocError)
     (opens : OpensPlan see inner plan core old made from stuffing plugins to)
-    (ends : EndsLive see plan stuffing core from made_from plugins back to made_to made printed failed whole closed) where
+    (ends : EndsLive see plan stuffing core from made_from plugins back to made_to made printed failed whole counts closed) where
   abbrev live-run : EndsRun see (plugin_stands see.stands) stuffing core from made_from plugins back to made_to closed
-  live-run = live-ends see plan opens.0 stuffing core from made_from plugins back to made_to made printed failed whole closed opens.2.ready.rules ends
+  live-run = live-ends see plan opens.0 stuffing core from made_from plugins back to made_to made printed failed whole counts closed opens.2.ready.rules ends
 
   pub live-reach : IfOk closed (λ c. ReachesCut (plugin_stands see.stands) back c.cut 0)
   live-reach = called-reach see (plugin_stands see.stands) inner plan core old made from made_from stuffing plugins back to made_to closed opens live-run
@@ -85,7 +86,7 @@ module _ {S K P : Type 0} (see : Seeing S K P) (inner : S → SourceView) (plan 
       → ((tables : List (List (List ℕ))) (s : Stuffing) (numbers : CorePlan) (f : InputPart S) (ps : List (Heard P)) (t : OutputPart K) (opened : DeskView)
       → map (heard_rule see) ps ≡ rules_of (named_rules plan.plugins tables)
       → map (heard_rule see) back ≡ rules_of (named_rules plan.plugins tables)
-      → EndsLive see plan s numbers f made_from ps back t made_to opened printed failed whole closed
+      → EndsLive see plan s numbers f made_from ps back t made_to opened printed failed whole counts closed
       → RanOpened see (plugin_stands see.stands) inner plan tables s numbers opened new f ps t status)
       → CallsPlan plan old new status
   live-called new status reported = inl (record {

@@ -29,17 +29,17 @@ SameSaid stuffing kept left_out = (bare : Bool) (m : ℕ) (why : Cause) → Know
 
 -- ---- positions
 
-times-more : (n a b : ℕ) → a ≤ b → n * a ≤ n * b
+pub times-more : (n a b : ℕ) → a ≤ b → n * a ≤ n * b
 times-more zero a b few = omega arith
 times-more (suc n) a b few = let rest : n * a ≤ n * b = times-more n a b few in omega arith
 
-groups-more : (k a b : ℕ) → 1 ≤ k → a ≤ b → a / k ≤ b / k
+pub groups-more : (k a b : ℕ) → 1 ≤ k → a ≤ b → a / k ≤ b / k
 groups-more k a b some few =
     let within : k * (a / k) ≤ a = mul-div-le a k in
     let swapped : (a / k) * k ≡ k * (a / k) = omega arith in
     le-div (a / k) b k some (omega arith)
 
-position-more : (stuffing : Stuffing) (a b : ℕ) → 1 ≤ stuffing.every → a ≤ b → position_of stuffing a ≤ position_of stuffing b
+pub position-more : (stuffing : Stuffing) (a b : ℕ) → 1 ≤ stuffing.every → a ≤ b → position_of stuffing a ≤ position_of stuffing b
 position-more stuffing a b some few =
     let nulls : stuffing.null * (a / stuffing.every) ≤ stuffing.null * (b / stuffing.every) =
     times-more stuffing.null (a / stuffing.every) (b / stuffing.every) (groups-more stuffing.every a b some few) in
@@ -63,7 +63,7 @@ none-printed bare stuffing m form (gap ∷ gaps) all =
     ap (λ (b : Bool). (if b then printed_line bare 0 (codes "file") (gap_text form gap) else []) ++ flat_map (gap_printed bare stuffing m form) gaps) all.0
     ∙ none-printed bare stuffing m form gaps all.1
 
-none-counted : (stuffing : Stuffing) (m : ℕ) (form : Form) (counts : GapCounts) (gaps : List Gap) → AllByRecursion (λ (gap : Gap). is_below stuffing m gap.before ≡ false) gaps
+pub none-counted : (stuffing : Stuffing) (m : ℕ) (form : Form) (counts : GapCounts) (gaps : List Gap) → AllByRecursion (λ (gap : Gap). is_below stuffing m gap.before ≡ false) gaps
     → fold (with_below stuffing m form) counts gaps ≡ counts
 none-counted stuffing m form counts [] all = refl
 none-counted stuffing m form counts (gap ∷ gaps) all =
@@ -72,7 +72,7 @@ none-counted stuffing m form counts (gap ∷ gaps) all =
 
 -- ---- a file whose gaps are known
 
-same-left : (why : Cause) (one other : ℕ) → (is_at_end why ≡ true → one ≡ other) → left_behind why one ≡ left_behind why other
+pub same-left : (why : Cause) (one other : ℕ) → (is_at_end why ≡ true → one ≡ other) → left_behind why one ≡ left_behind why other
 same-left (Input (ending.End left)) one other same = same refl
 same-left (Input (ending.Sync packet)) one other same = refl
 same-left (Input ending.ReadFault) one other same = refl

@@ -32,8 +32,8 @@ use Rattle.tsp_top.specs.PlannedChain.{GivenInput, given_of, chain_of, chain_on,
 use Rattle.tsp_top.specs.PlannedTables.{AreTables, tables_asked}
 use Rattle.tsp_top.specs.Faults.{run_faults}
 use Rattle.tsp_top.specs.LeftOut.{LeftOut}
-use Rattle.tsp_top.specs.Printed.{reported_as}
-use Rattle.chain_live.specs.LiveReports.{LiveLine, lines_below}
+use Rattle.tsp_top.specs.Printed.{reported_as, told_lines}
+use Rattle.chain_live.specs.LiveReports.{LiveLine}
 use Rattle.tsp_top.specs.StreamTheorem.{EndsRight, IsWrittenTo, Writes, Reports, ReportsPart}
 use Rattle.tsp_top.specs.TspCall.{CallsPlan, CallsTsp}
 use Rattle.tsp_top.specs.Headline.{TellsInput, TellsTables, IsPureCall, IsPureOrWants, IsPureOrEnds, IsDoneOrWants, EndsWell, SameButSizes, pure_status}
@@ -302,7 +302,7 @@ module _ (plan : Plan) (tables : List (List (List ℕ))) (files : List (List ℕ
         no_want = no-want plan why preallocated first;
         pure_or_fault = right;
         written = writes;
-        reported = part-behind plan.general.live plan.general.bare (lines_below (chain_on plan tables given) cut) plan old new reports;
+        reported = part-behind plan.general.live plan.general.bare (told_lines plan.general given.left_out (chain_on plan tables given) cut) plan old new reports;
       })
   wants-first out_of_memory tells first right writes reports =
       inl (reports, elim writes [ inl none ↦ inl none | inr empty ↦ inr empty ])

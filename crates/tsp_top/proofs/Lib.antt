@@ -9,6 +9,14 @@ pub mod PrintedLemmas
 pub mod EndLemmas
 pub mod SinkLemmas
 pub mod GapLemmas
+pub mod GapRounds
+pub mod TextRounds
+pub mod RoundRows
+pub mod RoundLemmas
+pub mod ToldLemmas
+pub mod PrintedRounds
+pub mod RestLemmas
+pub mod LeftLemmas
 pub mod SourceLemmas
 pub mod CutLemmas
 pub mod StreamLemmas

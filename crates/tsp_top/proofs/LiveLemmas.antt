@@ -11,7 +11,6 @@ use Rattle.chain_core.specs.declared.core_plan.CorePlan.{CorePlan}
 use Rattle.chain_model.specs.Apply.{StageList}
 use Rattle.chain_model.specs.PluginRule.{PluginRule}
 use Rattle.chain_model.specs.Reports.{rules_of}
-use Rattle.chain_live.specs.LiveReports.{lines_below}
 use Rattle.chain_run.specs.Met.{AllMetFirst}
 use Rattle.chain_run.specs.RunOf.{RunBy}
 use Rattle.chain_rounds.specs.Round.{AreNames}
@@ -22,9 +21,13 @@ use Rattle.stage_run.specs.Seeing.{Seeing, heard_rule}
 use Rattle.stage_run.specs.declared.input_part.InputPart.{InputPart}
 use Rattle.stage_run.specs.declared.output_part.OutputPart.{OutputPart}
 use Rattle.stage_run.specs.declared.stuffing.Stuffing.{Stuffing}
-use Rattle.tsp_top.specs.LiveEnds.{EndsLive, RanLive, plugin_stands}
-use Rattle.tsp_top.specs.PlannedChain.{later_tables, named_rules}
-use Rattle.tsp_top.specs.Printing.{HasPrinted, name_at}
+use Rattle.packet_forms.specs.declared.forms.Form.{Form}
+use Rattle.search_source.specs.declared.gap.Gap.{Gap}
+use Rattle.search_source.specs.declared.gap_counts.GapCounts.{GapCounts}
+use Rattle.tsp_top.specs.InputRounds.{ToldGaps}
+use Rattle.tsp_top.specs.LiveEnds.{EndsLive, PrintedTo, RanLive, plugin_stands}
+use Rattle.tsp_top.specs.PlannedChain.{later_tables, named_rules, stuffing_of}
+use Rattle.tsp_top.specs.Printing.{name_at}
 use Rattle.tsp_top.specs.Ran.{EndsRun, chain_over}
 
 -- ---- the names of plugins
@@ -67,26 +70,32 @@ weaker-met one other f rules input gave cut j (plugin ∷ plugins) met = (
 -- a run that was closed, of which this was printed: it says no less of less of its plugins
 pub ran-live : {S K P : Type 0} (see : Seeing S K P) (one : Heard P → List Cell → ℕ → Type 0) → ((p : Heard P) (h : List Cell) (m : ℕ) → one p h m → plugin_stands see.stands p h m)
     → (plan : Plan) (tables : List (List (List ℕ))) (stuffing : Stuffing) (numbers : CorePlan)
-    (from made_from : InputPart S) (plugins made : List (Heard P)) (to made_to : OutputPart K) (old new : DeskView) (failed whole : Bool) (closed : Closed)
-    → (run : RunBy see one from made_from stuffing plugins made to made_to numbers closed)
-    → HasPrinted plan.general.bare (lines_below (chain_over plan tables run.list) closed.cut) old new failed whole
-    → RanLive see plan tables stuffing numbers from made_from plugins made to made_to old new failed whole closed
-ran-live see one f plan tables stuffing numbers from made_from plugins made to made_to old new failed whole closed run printed = record {
-  run = record {
-    list = run.list;
-    is_list = run.is_list;
-    closes = run.closes;
-    input = run.input;
-    output = run.output;
-    gave = run.gave;
-    gave_to = run.gave_to;
-    input_gave = run.input_gave;
-    met = weaker-met one (plugin_stands see.stands) f (map (heard_rule see) plugins) run.list run.gave closed.cut 0 made run.met;
-    memory = run.memory;
-    rules = run.rules;
-  };
-  printed = printed;
-}
+    (from made_from : InputPart S) (plugins made : List (Heard P)) (to made_to : OutputPart K) (old new : DeskView) (failed whole : Bool) (counts : GapCounts) (closed : Closed)
+    → (run : RunBy see one from made_from stuffing plugins made to made_to numbers closed) (form : Form) (gaps : List Gap) (at : ℕ)
+    → ToldGaps see.source (stuffing_of plan.general) from at form gaps
+    → PrintedTo plan.general (chain_over plan tables run.list) closed.cut form gaps at old new failed whole counts
+    → RanLive see plan tables stuffing numbers from made_from plugins made to made_to old new failed whole counts closed
+ran-live see one f plan tables stuffing numbers from made_from plugins made to made_to old new failed whole counts closed run form gaps at told printed =
+    record {
+      run = record {
+        list = run.list;
+        is_list = run.is_list;
+        closes = run.closes;
+        input = run.input;
+        output = run.output;
+        gave = run.gave;
+        gave_to = run.gave_to;
+        input_gave = run.input_gave;
+        met = weaker-met one (plugin_stands see.stands) f (map (heard_rule see) plugins) run.list run.gave closed.cut 0 made run.met;
+        memory = run.memory;
+        rules = run.rules;
+      };
+      form = form;
+      gaps = gaps;
+      at = at;
+      told = told;
+      printed = printed;
+    }
 
 -- ---- a run as every run
 
@@ -99,13 +108,13 @@ on-err-of (Ok x) P Q f h = tt
 on-err-of (Err e) P Q f h = f h
 
 pub live-ends : {S K P : Type 0} (see : Seeing S K P) (plan : Plan) (tables : List (List (List ℕ))) (stuffing : Stuffing) (numbers : CorePlan)
-    (from made_from : InputPart S) (plugins made : List (Heard P)) (to made_to : OutputPart K) (old new : DeskView) (failed whole : Bool) (closed : Result Closed AllocError)
+    (from made_from : InputPart S) (plugins made : List (Heard P)) (to made_to : OutputPart K) (old new : DeskView) (failed whole : Bool) (counts : GapCounts) (closed : Result Closed AllocError)
     → map (heard_rule see) plugins ≡ rules_of (named_rules plan.plugins tables)
-    → EndsLive see plan stuffing numbers from made_from plugins made to made_to old new failed whole closed
+    → EndsLive see plan stuffing numbers from made_from plugins made to made_to old new failed whole counts closed
     → EndsRun see (plugin_stands see.stands) stuffing numbers from made_from plugins made to made_to closed
-live-ends see plan tables stuffing numbers from made_from plugins made to made_to old new failed whole closed rules ends = record {
+live-ends see plan tables stuffing numbers from made_from plugins made to made_to old new failed whole counts closed rules ends = record {
   run = weaker-ok closed
-      (λ (c : Closed). RanLive see plan tables stuffing numbers from made_from plugins made to made_to old new failed whole c)
+      (λ (c : Closed). RanLive see plan tables stuffing numbers from made_from plugins made to made_to old new failed whole counts c)
       (λ (c : Closed). RunBy see (plugin_stands see.stands) from made_from stuffing plugins made to made_to numbers c)
       (λ c ran. ran.run) (ends.run tables rules);
   never_began = ends.never_began;

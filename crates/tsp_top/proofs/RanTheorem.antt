@@ -1,5 +1,5 @@
 -- The stream theorem of a call whose two ends were opened.
-use Rattle.std.proofs.Common.{◌≡◌, ◌≢◌, ◌⊎◌, ℕ, zero, suc, ◌-◌, ◌<◌, List, [], ◌∷◌, ◌++◌, length, map, take, Bool, true, false, ◌||◌, if◌then◌else◌, Option, None, Some, IfSome, refl, ap, sym, ◌∙◌, subst, inl, inr, arith}
+use Rattle.std.proofs.Common.{◌≡◌, ◌≢◌, ◌⊎◌, ℕ, zero, suc, ◌-◌, ◌<◌, ◌≤◌, List, [], ◌∷◌, ◌++◌, length, map, take, Bool, true, false, ◌||◌, Option, None, Some, IfSome, refl, ap, sym, ◌∙◌, subst, inl, inr, arith}
 use Rattle.std.specs.Bool.{OnTrue}
 use Rattle.std.specs.Prelude.{slice_index_or}
 use Rattle.std.proofs.lemmas.List.{take_all, length-map}
@@ -27,6 +27,7 @@ use Rattle.plugin_trait.specs.declared.heard.Heard.{Heard}
 use Rattle.stage_run.specs.Seeing.{Seeing, heard_rule, heard_preallocated}
 use Rattle.stage_run.specs.declared.input_part.InputPart.{InputPart}
 use Rattle.stage_run.specs.declared.output_part.OutputPart.{OutputPart}
+use Rattle.stage_run.specs.Parts.{IsListOf}
 use Rattle.stage_run.specs.InputStands as stage
 use Rattle.stage_run.specs.declared.stuffing.Stuffing.{Stuffing}
 use Rattle.search_source.specs.declared.file_source.KeptGaps.{KeptGaps}
@@ -40,17 +41,18 @@ use Rattle.ts_outside.specs.Desk.{DeskView}
 use Rattle.ts_outside.specs.Saying.{Says}
 use Rattle.ts_outside.specs.Entries.{asked_for, outputs_with}
 use Rattle.chain_run.specs.RunOf.{LeftInput, LeftOutput, RunBy}
-use Rattle.chain_live.specs.LiveReports.{LiveLine, lines_below}
+use Rattle.chain_live.specs.LiveReports.{LiveLine}
 use Rattle.plugin_settings.specs.Items.{preallocated_of_item}
 use Rattle.tsp_top.specs.CallOutcome.{ran, unreported, out_of_memory, run_status, status_of, FaultRose, LateRose}
 use Rattle.tsp_top.specs.CanEnd.{CanEndBy}
 use Rattle.tsp_top.specs.MemoryFirst.{TakesLater}
 use Rattle.tsp_top.specs.Openings.{asked_input, asked_output, input_closed_as, output_closed_as, OpensInput, OpensOutput, IsThrough, WasOpened}
 use Rattle.tsp_top.specs.PlannedChain.{GivenInput, chain_on, GivesInput, stuffing_of, users_of, named_rules, input_name, output_name}
-use Rattle.tsp_top.specs.Ran.{IsReady, RanEnds, RanOpened, chain_over, closed_desk}
+use Rattle.tsp_top.specs.InputRounds.{ExtendsTold, IsLeftOut, Knows}
+use Rattle.tsp_top.specs.Ran.{IsReady, RanClosed, RanEnds, RanOpened, chain_over, closed_desk}
 use Rattle.tsp_top.specs.Faults.{faults_from, run_faults}
-use Rattle.tsp_top.specs.LeftOut.{KnowsAll, input_faulty, kept_out}
-use Rattle.tsp_top.specs.Printed.{live_asked, live_text, reported_as, reports_asked}
+use Rattle.tsp_top.specs.LeftOut.{LeftOut, input_faulty, kept_out}
+use Rattle.tsp_top.specs.Printed.{live_text, reported_as, told_lines}
 use Rattle.tsp_top.specs.Readings.{ReadsTo}
 use Rattle.tsp_top.specs.Reported.{ReportsAsked, StandsUnreported}
 use Rattle.tsp_top.specs.Sizes.{default_buffer}
@@ -61,7 +63,9 @@ use Rattle.tsp_top.specs.declared.status.Status.TheVariants as status
 use Rattle.tsp_top.proofs.CutLemmas.{written-begins}
 use Rattle.tsp_top.proofs.DeskLemmas.{SameOutside, SameCounts, LeavesAll, leaves-all, same-asked_input, same-both, asked-both, leaves-input_closed, outputs-input_closed, write_faults-input_closed, leaves-output_closed, read_faults-output_closed, closed_in-output_closed, leaves-says}
 use Rattle.tsp_top.proofs.SinkLemmas.{TookBytes, outputs-took, outputs-empty, write_fault-counted, closing-counted, write_faults-stay, write-named, closing-named}
-use Rattle.tsp_top.proofs.SourceLemmas.{FilesOf, some-files, some-input, read_fault-counted, opened-list, reads-nothing, reads-to, read-named, size-within}
+use Rattle.tsp_top.proofs.SourceLemmas.{FilesOf, some-files, some-input, read_fault-counted, reads-nothing, reads-to, read-named, size-within, live-list, plain-list}
+use Rattle.tsp_top.proofs.GapLemmas.{SameSaid}
+use Rattle.tsp_top.proofs.LeftLemmas.{plain-asked}
 use Rattle.tsp_top.proofs.StreamLemmas.{can-end, reports-text, report-rose, report-stays, fault-rose, late-rose}
 
 -- what was asked for where both ends were opened
@@ -117,7 +121,7 @@ reported-theorem plan tables files given old made new cut why late said st facts
 
 -- a run for whose report there was no memory
 unreported-theorem : (plan : Plan) (tables : List (List (List ℕ))) (files : List (List ℕ × List ℕ)) (given : GivenInput) (old new : DeskView) (cut : ℕ) (why : Cause) (st : Status)
-    → RanFacts plan tables files given old new cut why → st ≡ NoMemory → ReportsPart plan.general.live plan.general.bare (lines_below (chain_on plan tables given) cut) old new → StreamTheorem plan tables old new st
+    → RanFacts plan tables files given old new cut why → st ≡ NoMemory → ReportsPart plan.general.live plan.general.bare (told_lines plan.general given.left_out (chain_on plan tables given) cut) old new → StreamTheorem plan tables old new st
 unreported-theorem plan tables files given old new cut why st facts told reported = record {
   end = unreported cut why;
   files = files;
@@ -298,7 +302,7 @@ takes-later (item ∷ items) buffer zero less no_room = λ preallocated.
 takes-later (item ∷ items) buffer (suc j) less no_room = takes-later items buffer j (omega arith) no_room
 
 module _ {S K P : Type 0} (see : Seeing S K P) (stands : Heard P → List Cell → ℕ → Type 0) (inner : S → SourceView) (plan : Plan) (tables : List (List (List ℕ))) (old made new : DeskView) (from made_from : InputPart S) (kept : Option KeptGaps) (stuffing : Stuffing)
-    (plugins : List (Heard P)) (to made_to : OutputPart K) (failed : Bool) (numbers : CorePlan) (closed : Closed)
+    (plugins : List (Heard P)) (to made_to : OutputPart K) (failed : Bool) (numbers : CorePlan) (closed : Closed) (result : Status)
     (opened : Opened see.source inner see.sink plan old made from to) (through : IsThrough see.source inner made_from kept)
     (ready : IsReady see.rule see.stands see.preallocated plan tables stuffing numbers plugins) where
   abbrev d2 : DeskView
@@ -310,7 +314,8 @@ module _ {S K P : Type 0} (see : Seeing S K P) (stands : Heard P → List Cell �
   abbrev steps : Desks plan old made d2 d3
   steps = desks inner see.sink plan old made made_from made_to failed opened.asked
 
-  module _ (plugins_made : List (Heard P)) (run : RunBy see stands from made_from stuffing plugins plugins_made to made_to numbers closed) where
+  module _ (plugins_made : List (Heard P)) (run : RunBy see stands from made_from stuffing plugins plugins_made to made_to numbers closed)
+      (Fits : Option LeftOut → Type 0) (chosen : FilesOf old plan.input (stuffing_of plan.general) run.list Fits) where
     abbrev own : List PluginRule
     own = map (heard_rule see) plugins
 
@@ -319,11 +324,6 @@ module _ {S K P : Type 0} (see : Seeing S K P) (stands : Heard P → List Cell �
 
     abbrev cells : List Cell
     cells = (end_list own run.list).cells
-
-    -- the files whose input the run had
-    abbrev chosen : FilesOf old plan.input (stuffing_of plan.general) run.list kept
-    chosen = subst (λ (s : model.Stuffing). FilesOf old plan.input s run.list kept) ready.stuffing_is
-        (opened-list see.source inner old plan.input from made_from (stage.stuffing_of stuffing) run.list kept numbers.buffer closed.cut closed.cause ready.every opened.input run.is_list through run.input)
 
     -- what holds of the run's lists holds of the plan's chain
     of-plan : (F : List PluginRule → StageList → List ℕ → Type 0) → F own run.list users
@@ -371,45 +371,57 @@ module _ {S K P : Type 0} (see : Seeing S K P) (stands : Heard P → List Cell �
       files_stay = leaves.files ∙ steps.files;
     }
 
-    -- what is known where the run was reported
-    abbrev Known : Type 0
-    Known = KnowsAll (stuffing_of plan.general) kept closed.cut closed.cause
-
-    -- the text of the run's report is that of the plan's chain
-    report-same : Known → reported_as plan.general (kept_out kept) (chain_over plan tables run.list) closed.cut closed.cause ≡ reported_as plan.general chosen.given.left_out (chain_on plan tables chosen.given) closed.cut closed.cause
-    report-same known =
-        let chain = chain_on plan tables chosen.given in
-        ap (λ (l : StageList). reported_as plan.general (kept_out kept) (chain_over plan tables l) closed.cut closed.cause) chosen.list_is
-        ∙ ap (λ (said : List ℕ). if plan.general.live then live_asked plan.general.bare said chain closed.cut closed.cause else said ++ reports_asked plan.general chain.plugins chain.input closed.cut closed.cause)
-        (chosen.said plan.general.bare closed.cut closed.cause known).0
-
-    -- and so are its lines
-    lines-same : lines_below (chain_over plan tables run.list) closed.cut ≡ lines_below (chain_on plan tables chosen.given) closed.cut
-    lines-same = ap (λ (l : StageList). lines_below (chain_over plan tables l) closed.cut) chosen.list_is
-
-    -- and so are its faults
-    faults-same : Known → (input_faulty (stuffing_of plan.general) (kept_out kept) closed.cut closed.cause || faults_from (rules_of (named_rules plan.plugins tables)) run.list closed.cut 0 (named_rules plan.plugins tables))
+    -- its faults are those of the plan's chain
+    faults-same : (input_faulty (stuffing_of plan.general) chosen.given.left_out closed.cut closed.cause || faults_from (rules_of (named_rules plan.plugins tables)) run.list closed.cut 0 (named_rules plan.plugins tables))
         ≡ run_faults plan.general chosen.given.left_out (chain_on plan tables chosen.given) closed.cut closed.cause
-    faults-same known =
-        ap (λ (b : Bool). b || faults_from (rules_of (named_rules plan.plugins tables)) run.list closed.cut 0 (named_rules plan.plugins tables)) (chosen.said plan.general.bare closed.cut closed.cause known).1
-        ∙ ap (λ (l : StageList). input_faulty (stuffing_of plan.general) chosen.given.left_out closed.cut closed.cause || faults_from (rules_of (named_rules plan.plugins tables)) l closed.cut 0 (named_rules plan.plugins tables)) chosen.list_is
+    faults-same =
+        ap (λ (l : StageList). input_faulty (stuffing_of plan.general) chosen.given.left_out closed.cut closed.cause || faults_from (rules_of (named_rules plan.plugins tables)) l closed.cut 0 (named_rules plan.plugins tables)) chosen.list_is
 
     -- a run that was closed, and then reported, or not where there was no memory for that
-    ran-closed : (st : Status) → OnTrue failed (WasOpened made_to)
-        → ReportsAsked plan.general (reported_as plan.general (kept_out kept) (chain_over plan tables run.list) closed.cut closed.cause) (lines_below (chain_over plan tables run.list) closed.cut)
-        (input_faulty (stuffing_of plan.general) (kept_out kept) closed.cut closed.cause || faults_from (rules_of (named_rules plan.plugins tables)) run.list closed.cut 0 (named_rules plan.plugins tables)) Known closed.cause failed d3 new st → StreamTheorem plan tables old new st
-    ran-closed st closing (inl report) =
+    ran-closed : (st : Status) (Known : Type 0) → OnTrue failed (WasOpened made_to)
+        → ReportsAsked plan.general (reported_as plan.general chosen.given.left_out (chain_over plan tables run.list) closed.cut closed.cause)
+        (told_lines plan.general chosen.given.left_out (chain_over plan tables run.list) closed.cut)
+        (input_faulty (stuffing_of plan.general) chosen.given.left_out closed.cut closed.cause || faults_from (rules_of (named_rules plan.plugins tables)) run.list closed.cut 0 (named_rules plan.plugins tables)) Known closed.cause failed d3 new st → StreamTheorem plan tables old new st
+    ran-closed st Known closing (inl report) =
         let text : List ℕ = reported_as plan.general chosen.given.left_out (chain_on plan tables chosen.given) closed.cut closed.cause in
-        let T : List ℕ → Type 0 = λ t. Says d3 new t report.0 in
-        let says : Says d3 new text report.0 = subst T (report-same report.3) report.1 in
+        let T : StageList → Type 0 = λ l. Says d3 new (reported_as plan.general chosen.given.left_out (chain_over plan tables l) closed.cut closed.cause) report.0 in
+        let says : Says d3 new text report.0 = subst T chosen.list_is report.1 in
         let facts = ran-facts (leaves-says d3 new text report.0 says) in
         let late = lates-rose see.source inner see.sink plan old made new from made_from to made_to failed report.0 text cells closed.cut closed.cause opened closing run.output says in
         reported-theorem plan tables chosen.files chosen.given old d3 new closed.cut closed.cause (failed || report.0) report.0 st facts late
-        (report.2 ∙ ap (λ (faulty : Bool). run_status plan.general faulty closed.cause (failed || report.0)) (faults-same report.3)) steps.reported steps.report_faults says
-    ran-closed st closing (inr none) =
-        let part = part-reported plan.general.live plan.general.bare (lines_below (chain_over plan tables run.list) closed.cut) old d3 new steps.reported steps.report_faults none.1 in
+        (report.2 ∙ ap (λ (faulty : Bool). run_status plan.general faulty closed.cause (failed || report.0)) faults-same) steps.reported steps.report_faults says
+    ran-closed st Known closing (inr none) =
+        let part = part-reported plan.general.live plan.general.bare (told_lines plan.general chosen.given.left_out (chain_over plan tables run.list) closed.cut) old d3 new steps.reported steps.report_faults none.1 in
         unreported-theorem plan tables chosen.files chosen.given old new closed.cut closed.cause st (ran-facts part.0) none.0
-        (subst (λ (l : List LiveLine). ReportsPart plan.general.live plan.general.bare l old new) lines-same part.1)
+        (subst (λ (l : StageList). ReportsPart plan.general.live plan.general.bare (told_lines plan.general chosen.given.left_out (chain_over plan tables l) closed.cut) old new) chosen.list_is part.1)
+
+  -- whether its lines were printed at the end or while it went
+  module _ (ran : RanClosed see stands inner plan tables stuffing numbers made new from made_from kept plugins to made_to failed result closed) (closing : OnTrue failed (WasOpened made_to)) where
+    abbrev some : 1 ≤ (stuffing_of plan.general).every
+    some = subst (λ (s : model.Stuffing). 1 ≤ s.every) ready.stuffing_is ready.every
+
+    list-of : IsListOf see.source from (stuffing_of plan.general) ran.run.list
+    list-of = subst (λ (s : model.Stuffing). IsListOf see.source from s ran.run.list) ready.stuffing_is ran.run.is_list
+
+    closed-plain : plan.general.live ≡ false → StreamTheorem plan tables old new result
+    closed-plain plain =
+        let s : model.Stuffing = stuffing_of plan.general in
+        let chosen = plain-list see.source inner old plan.input from made_from s (stage.stuffing_of stuffing) ran.run.list kept numbers.buffer closed.cut closed.cause some opened.input list-of through ran.run.input in
+        let is : IsLeftOut plan.general.live s ran.form ran.gaps ran.at kept closed.cause (kept_out kept) =
+        subst (λ (b : Bool). IsLeftOut b s ran.form ran.gaps ran.at kept closed.cause (kept_out kept)) (sym plain) refl in
+        ran-closed ran.made ran.run (SameSaid s kept) chosen result (Knows plan.general.live s kept closed.cut closed.cause) closing
+        (plain-asked plan.general kept chosen.given.left_out (chain_over plan tables ran.run.list) closed _ failed d3 new result plain chosen.said (ran.reported (kept_out kept) is))
+
+    closed-telling : plan.general.live ≡ true → StreamTheorem plan tables old new result
+    closed-telling live =
+        let s : model.Stuffing = stuffing_of plan.general in
+        let chosen = live-list see.source inner old plan.input from made_from s (stage.stuffing_of stuffing) ran.run.list kept numbers.buffer closed.cut closed.cause ran.form ran.gaps ran.at some (ran.told live) opened.input list-of through ran.run.input in
+        ran-closed ran.made ran.run (ExtendsTold s ran.form ran.gaps ran.at kept closed.cause) chosen result (Knows plan.general.live s kept closed.cut closed.cause) closing
+        (ran.reported chosen.given.left_out (subst (λ (b : Bool). IsLeftOut b s ran.form ran.gaps ran.at kept closed.cause chosen.given.left_out) (sym live) chosen.said))
+
+    closed-theorem : (live : Bool) → plan.general.live ≡ live → StreamTheorem plan tables old new result
+    closed-theorem true is = closed-telling is
+    closed-theorem false is = closed-plain is
 
 -- a run between two opened ends
 pub ran-theorem : {S K P : Type 0} (see : Seeing S K P) (stands : Heard P → List Cell → ℕ → Type 0) (inner : S → SourceView) (plan : Plan) (tables : List (List (List ℕ))) (stuffing : Stuffing) (numbers : CorePlan) (old made new : DeskView) (from : InputPart S) (plugins : List (Heard P)) (to : OutputPart K) (st : Status)
@@ -425,7 +437,7 @@ ran-theorem {S} {K} {P} see stands inner plan tables stuffing numbers old made n
         → RanEnds see stands inner plan tables stuffing numbers made new from made_from kept plugins to made_to failed st → StreamTheorem plan tables old new st
     ran-ends made_from kept made_to failed closing through (inl closed) =
         let opened : Opened see.source inner see.sink plan old made from to = record { asked = is; input = opens_in; output = opens_out } in
-        ran-closed see stands inner plan tables old made new from made_from kept stuffing plugins to made_to failed numbers closed.0 opened through ready closed.1.made closed.1.run st closing closed.1.reported
+        closed-theorem see stands inner plan tables old made new from made_from kept stuffing plugins to made_to failed numbers closed.0 st opened through ready closed.1 closing plan.general.live refl
     ran-ends made_from kept made_to failed closing through (inr none) =
         let opened : Opened see.source inner see.sink plan old made from to = record { asked = is; input = opens_in; output = opens_out } in
         let F : InputPart S → Type 0 = λ p. new ≡ closed_desk inner see.sink made p made_to failed in

@@ -1,5 +1,5 @@
 -- Worked rows, computed on the definitions.
-use Rattle.std.proofs.Common.{◌≡◌, ◌++◌, ◌∷◌, [], ℕ, List, Bool, true, false, Some, None, codes, refl}
+use Rattle.std.proofs.Common.{◌≡◌, ◌++◌, ◌∷◌, [], ℕ, List, filter, Bool, true, false, Some, None, codes, refl}
 use Rattle.std.specs.Fmt.{digits}
 use Rattle.chain_model.specs.Apply.{StageList}
 use Rattle.chain_model.specs.Reports.{NamedRule, reports}
@@ -11,8 +11,10 @@ use Rattle.chain_args.specs.declared.general_conf.GeneralConf.{GeneralConf}
 use Rattle.chain_args.specs.declared.stage_threads.StageThreads.TheVariants.{Auto}
 use Rattle.tsp_top.specs.CallOutcome.{run_status, status_of}
 use Rattle.chain_model.specs.PureRun.{Chain, reported_at}
-use Rattle.chain_live.specs.LiveReports.{LiveLine, live_reported}
-use Rattle.tsp_top.specs.Printed.{gap_printed, live_text, printed_line, reported_as, reports_asked}
+use Rattle.chain_live.specs.LiveReports.{LiveLine, is_before, live_reported}
+use Rattle.chain_rounds.specs.Merged.{merged}
+use Rattle.chain_rounds.specs.Round.{place}
+use Rattle.tsp_top.specs.Printed.{gap_printed, input_lines, live_text, printed_line, reported_as, reports_asked}
 use Rattle.tsp_top.specs.Sizes.{lesser_batch}
 use Rattle.tsp_top.specs.declared.status.Status.TheVariants.{Done, WriteFault, Sync, InputEnded, FaultFound}
 
@@ -112,6 +114,22 @@ before-the-cut = refl
 
 behind-the-cut : gap_printed true (record { start = 0; stop = 0; null = 1; every = 2 }) 9 Ts (record { before = 6; bytes = 7 }) ≡ []
 behind-the-cut = refl
+
+-- the same as lines of a live report, beside a line of a plugin at position 3 and two at 9: the one is at position 3, since a null
+-- packet is put after every two, the other at 9, and that of a packet behind the cut is in none
+abbrev beside : List LiveLine
+beside = record { at = 3; plugin = 1; name = []; text = codes "a" } ∷ record { at = 9; plugin = 1; name = []; text = codes "b" } ∷ record { at = 9; plugin = 2; name = []; text = codes "c" } ∷ []
+
+gaps-beside-lines : live_text true (merged place
+    (filter (is_before 10) (input_lines (record { start = 0; stop = 0; null = 1; every = 2 }) (Some (record {
+      form = Ts;
+      gaps = record { before = 2; bytes = 188 } ∷ record { before = 6; bytes = 7 } ∷ record { before = 7; bytes = 5 } ∷ [];
+      behind = 0;
+    })))) beside)
+    ≡ (codes "bad sync byte before packet 2" ++ 10 ∷ []) ++ ((codes "a" ++ 10 ∷ [])
+    ++ ((codes "7 bytes left out before packet 6" ++ 10 ∷ []) ++ ((codes "b" ++ 10 ∷ []) ++ (codes "c" ++ 10 ∷ []))))
+unfolding digits
+gaps-beside-lines = refl
 
 -- two bare lines of one round
 abbrev line : ℕ → ℕ → LiveLine

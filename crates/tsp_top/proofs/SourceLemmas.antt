@@ -1,5 +1,5 @@
 -- What was read of an input that was opened and closed.
-use Rattle.std.proofs.Common.{◌≡◌, ◌⊎◌, ◌≤◌, ◌<◌, ◌*◌, ◌^◌, ℕ, List, [], ◌∷◌, ◌++◌, Option, None, Some, IfSome, Bool, true, false, if◌then◌else◌, nat_lt, refl, ap, sym, ◌∙◌, subst, inl, inr, length, arith}
+use Rattle.std.proofs.Common.{◌≡◌, ◌⊎◌, ◌≤◌, ◌<◌, ◌*◌, ◌^◌, ℕ, List, [], ◌∷◌, ◌++◌, Option, None, Some, IfSome, Bool, true, false, if◌then◌else◌, nat_lt, refl, ap, sym, ◌∙◌, subst, inl, inr, length, filter, append-nil, arith}
 use Rattle.std.specs.Prelude.{IsSome, unwrap_or}
 use Rattle.std.specs.Option.{option_map}
 use Rattle.std.proofs.lemmas.Slice.Eq.{bytes_eq-Decides}
@@ -29,7 +29,8 @@ use Rattle.packet_forms.specs.declared.forms.Form.TheVariants.{Ts, M2ts, Rs204}
 use Rattle.packet_forms.specs.FormView.{form_view, came, ReadsThrough}
 use Rattle.search_source.specs.Coming.{Coming, ungiven, coming_from, found_in}
 use Rattle.search_source.specs.Kept.{KeptTo}
-use Rattle.search_source.proofs.Kept.{gaps-to}
+use Rattle.search_source.proofs.Kept.{gaps-rise, gaps-to}
+use Rattle.search_source.specs.declared.gap.Gap.{Gap}
 use Rattle.search_source.proofs.Through.{same-units}
 use Rattle.search_source.specs.SearchView.{SearchView, plain, FoundThrough}
 use Rattle.search_source.specs.FileView.{EndsAs}
@@ -44,9 +45,11 @@ use Rattle.ts_outside.proofs.Views.{HasCause-raised}
 use Rattle.ts_outside.specs.Entries.{closed_with}
 use Rattle.tsp_top.specs.PlannedChain.{GivenInput, all_of, stuffing_of, bytes_of_packets, given_of, left_out_of, input_of, GivesFile, GivesInput, input_name}
 use Rattle.tsp_top.specs.LeftOut.{LeftOut}
+use Rattle.tsp_top.specs.InputRounds.{ExtendsTold, IsPlaced, ToldGaps}
 use Rattle.tsp_top.proofs.GapLemmas.{SameSaid, nothing-said, same-said}
+use Rattle.tsp_top.proofs.GapRounds.{below, split-gaps}
 use Rattle.tsp_top.specs.Sizes.{IsSize, most_buffer}
-use Rattle.tsp_top.specs.Openings.{OpensInput, packets_view, IsThrough, input_closed_as}
+use Rattle.tsp_top.specs.Openings.{OpensInput, finds_again, packets_view, IsThrough, input_closed_as}
 use Rattle.tsp_top.specs.Readings.{ReadsNothing, CutsAtRead, AreTaken, ReadsFile, ReadsTo}
 
 -- where the bytes of a file's packets are from
@@ -112,14 +115,14 @@ file-of-first : (name bytes : List ℕ) → file_of ((name, bytes) ∷ []) name 
 file-of-first name bytes = ap (λ (b : Bool). if b then bytes else []) ((bytes_eq-Decides name name).1 refl)
 
 -- the files of a run: those that are known, and where none are, some that have the bytes of its input; what its input gives
--- over them; and what is said of what is left out, by the gaps that were kept
-pub record FilesOf (d : DeskView) (conf : InputConf) (s : model.Stuffing) (list : StageList) (kept : Option KeptGaps) : Type 0 where
+-- over them; and what holds of what is left out
+pub record FilesOf (d : DeskView) (conf : InputConf) (s : model.Stuffing) (list : StageList) (Fits : Option LeftOut → Type 0) : Type 0 where
   pub files : List (List ℕ × List ℕ)
   pub files_are : IfSome d.files (λ told. files ≡ told)
   pub given : GivenInput
   pub given_is : GivesInput conf d.files files given
   pub list_is : list ≡ stuffed s given.list
-  pub said : SameSaid s kept given.left_out
+  pub said : Fits given.left_out
 
 -- the bytes of packets that are left to a source that was opened
 view-left : (resync : Bool) (form : Form) (own : SourceView) → (packets_view resync form own).left ≡ option_map (bytes_of_packets resync form) own.left
@@ -151,74 +154,128 @@ unit-within Ts = (omega arith, omega arith)
 unit-within M2ts = (omega arith, omega arith)
 unit-within Rs204 = (omega arith, omega arith)
 
-six-units : (form other : Form) → unit form ≡ 6 * unit other → ⊥
+pub six-units : (form other : Form) → unit form ≡ 6 * unit other → ⊥
 six-units form other same =
     let few = (unit-within form).1 in
     let many = (unit-within other).0 in
     absurd (omega arith)
 
 -- what was taken of a file, and its bytes are these
-record GivenOf (told : Option (List (List ℕ × List ℕ))) (name : List ℕ) (form : Form) (resync : Bool) (s : model.Stuffing) (bytes : List ℕ) (kept : Option KeptGaps) : Type 0 where
+record GivenOf (told : Option (List (List ℕ × List ℕ))) (name : List ℕ) (form : Form) (resync : Bool) (bytes : List ℕ) (Fits : Option LeftOut → Type 0) : Type 0 where
   files : List (List ℕ × List ℕ)
   files_are : IfSome told (λ t. files ≡ t)
   left_out : Option LeftOut
   gives : GivesFile resync told (given_of resync form (file_of files name)) (record { list = input_of_bytes bytes; left_out = left_out })
-  said : SameSaid s kept left_out
+  said : Fits left_out
 
 -- what is told of a file that was opened
 told-bytes : (next : List ℕ → List ℕ) (own old : Option (List ℕ)) (file bytes : List ℕ) → own ≡ Some file → old ≡ option_map next own → IfSome old (λ l. l ≡ bytes) → next file ≡ bytes
 told-bytes next own old file bytes e through is = subst (λ (o : Option (List ℕ)). IfSome o (λ l. l ≡ bytes)) (through ∙ ap (option_map next) e) is
 
-given-of-file : (told : Option (List (List ℕ × List ℕ))) (name : List ℕ) (form : Form) (resync : Bool) (s : model.Stuffing) (own old new last : SourceView) (bytes : List ℕ) (kept : Option KeptGaps) → 1 ≤ s.every
-    → own.left ≡ option_map (λ fs. file_of fs name) told → told_length own.left < 2 ^ 63 → old ≡ packets_view resync form own → old.origin ≡ new.origin → EndsAs new last kept
-    → IfSome old.left (λ l. l ≡ bytes) → GivenOf told name form resync s bytes kept
-given-of-file told name form false s own old new last bytes (Some kept) some e small takes same ends is =
+given-of-file : (Fits : Option LeftOut → Type 0) (told : Option (List (List ℕ × List ℕ))) (name : List ℕ) (form : Form) (resync : Bool) (own old new last : SourceView) (bytes : List ℕ) (kept : Option KeptGaps)
+    → (kept ≡ None → resync ≡ false → Fits None) → ((k : KeptGaps) → kept ≡ Some k → (out : LeftOut) × Fits (Some out))
+    → ((k : KeptGaps) (file : List ℕ) → kept ≡ Some k → resync ≡ true → own.left ≡ Some file → Fits (left_out_of true form file))
+    → own.left ≡ option_map (λ fs. file_of fs name) told → old ≡ packets_view resync form own → old.origin ≡ new.origin → EndsAs new last kept
+    → IfSome old.left (λ l. l ≡ bytes) → GivenOf told name form resync bytes Fits
+given-of-file Fits told name form false own old new last bytes (Some kept) none unknown known e takes same ends is =
     absurd (six-units form kept.form (sym (ap (λ (v : SourceView). v.origin.unit) takes) ∙ ap (λ (o : Origin). o.unit) same ∙ ends.2))
-given-of-file told name form true s own old new last bytes None some e small takes same ends is =
+given-of-file Fits told name form true own old new last bytes None none unknown known e takes same ends is =
     absurd (six-units ends.form form (sym ends.unit_is ∙ ap (λ (o : Origin). o.unit) (sym same) ∙ ap (λ (v : SourceView). v.origin.unit) takes))
-given-of-file None name form false s own old new last bytes None some e small takes same ends is =
+given-of-file Fits None name form false own old new last bytes None none unknown known e takes same ends is =
     let raw = some-raw form 0 bytes in
     record {
       files = (name, raw.0) ∷ [];
       files_are = tt;
       left_out = None;
       gives = ap (λ (l : List ℕ). let g : GivenInput = record { list = input_of_bytes l; left_out = None } in g) (sym (ap (stripped form) (file-of-first name raw.0) ∙ raw.1));
-      said = nothing-said s None refl;
+      said = none refl refl;
     }
-given-of-file (Some t) name form false s own old new last bytes None some e small takes same ends is =
+given-of-file Fits (Some t) name form false own old new last bytes None none unknown known e takes same ends is =
     record {
       files = t;
       files_are = refl;
       left_out = None;
       gives = ap (λ (l : List ℕ). let g : GivenInput = record { list = input_of_bytes l; left_out = None } in g)
           (sym (told-bytes (bytes_of_packets false form) own.left old.left (file_of t name) bytes e (ap (λ (v : SourceView). v.left) takes ∙ view-left false form own) is));
-      said = nothing-said s None refl;
+      said = none refl refl;
     }
-given-of-file None name form true s own old new last bytes (Some kept) some e small takes same ends is =
-    let out : LeftOut = record { form = kept.form; gaps = kept.gaps.items; behind = kept.behind } in
+given-of-file Fits None name form true own old new last bytes (Some kept) none unknown known e takes same ends is =
+    let out = unknown kept refl in
     record {
       files = [];
       files_are = tt;
-      left_out = Some out;
-      gives = (bytes, out, refl);
-      said = λ bare m why all. (refl, refl);
+      left_out = Some out.0;
+      gives = (bytes, out.0, refl);
+      said = out.1;
     }
-given-of-file (Some t) name form true s own old new last bytes (Some kept) some e small takes same ends is =
+given-of-file Fits (Some t) name form true own old new last bytes (Some kept) none unknown known e takes same ends is =
     let file : List ℕ = file_of t name in
-    let from : new.origin ≡ found_origin form (Some file) = sym same ∙ ap (λ (v : SourceView). v.origin) takes ∙ ap (found_origin form) e in
-    let seen : ends.0.origin ≡ found_origin form (Some file) = ap (λ (v : SourceView). v.origin) (sym ends.1) ∙ from in
-    let form_is : kept.form ≡ form = sym (same-units form kept.form (sym (ap (λ (o : Origin). o.unit) from) ∙ ends.2)) in
-    let short : length file < 2 ^ 63 = subst (λ (o : Option (List ℕ)). told_length o < 2 ^ 63) e small in
     record {
       files = t;
       files_are = refl;
       left_out = left_out_of true form file;
       gives = ap (λ (l : List ℕ). let g : GivenInput = record { list = input_of_bytes l; left_out = left_out_of true form file } in g)
           (sym (told-bytes (bytes_of_packets true form) own.left old.left file bytes e (ap (λ (v : SourceView). v.left) takes ∙ view-left true form own) is));
-      said = same-said s form file kept some form_is
-          (λ lost. gaps-to form file kept.gaps.items kept.number kept.behind kept.over ends.0 last seen short
-          (subst (λ (b : Bool). KeptTo ends.0 last b kept.gaps.items kept.number kept.behind kept.over) lost ends.3));
+      said = known kept file refl refl e;
     }
+
+-- what was kept of a file that is known
+pub record KeptOfFile {S : Type 0} (seen inner : S → SourceView) (part new : InputPart S) (form : Form) (file : List ℕ) (kept : KeptGaps) : Type 0 where
+  pub source : S
+  pub part_is : part ≡ Stream source
+  pub left : (inner source).left ≡ Some file
+  pub view : seen source ≡ packets_view true form (inner source)
+  pub small : length file < 2 ^ 63
+  pub now : S
+  pub new_is : new ≡ Stream now
+  pub same : (seen source).origin ≡ (seen now).origin
+  pub ends : EndsAs (seen now) (inner now) (Some kept)
+
+from-file : {S : Type 0} (seen inner : S → SourceView) (part new : InputPart S) (form : Form) (file : List ℕ) (kept : KeptGaps) (of : KeptOfFile seen inner part new form file kept)
+    → (seen of.now).origin ≡ found_origin form (Some file)
+from-file seen inner part new form file kept of = sym of.same ∙ ap (λ (v : SourceView). v.origin) of.view ∙ ap (found_origin form) of.left
+
+form-kept : {S : Type 0} (seen inner : S → SourceView) (part new : InputPart S) (form : Form) (file : List ℕ) (kept : KeptGaps) → KeptOfFile seen inner part new form file kept → kept.form ≡ form
+form-kept seen inner part new form file kept of =
+    sym (same-units form kept.form (sym (ap (λ (o : Origin). o.unit) (from-file seen inner part new form file kept of)) ∙ of.ends.2))
+
+-- at the end: what is said of it
+pub plain-file : {S : Type 0} (seen inner : S → SourceView) (part new : InputPart S) (s : model.Stuffing) (all : Option KeptGaps) (form : Form) (file : List ℕ) (kept : KeptGaps) → 1 ≤ s.every → all ≡ Some kept
+    → KeptOfFile seen inner part new form file kept → SameSaid s all (left_out_of true form file)
+plain-file seen inner part new s all form file kept some is of =
+    let seen_of : of.ends.0.origin ≡ found_origin form (Some file) = ap (λ (v : SourceView). v.origin) (sym of.ends.1) ∙ from-file seen inner part new form file kept of in
+    subst (λ (k : Option KeptGaps). SameSaid s k (left_out_of true form file)) (sym is)
+    (same-said s form file kept some (form-kept seen inner part new form file kept of)
+    (λ lost. gaps-to form file kept.gaps.items kept.number kept.behind kept.over of.ends.0 (inner of.now) seen_of of.small
+    (subst (λ (b : Bool). KeptTo of.ends.0 (inner of.now) b kept.gaps.items kept.number kept.behind kept.over) lost of.ends.3)))
+
+-- an input whose packets are not found again
+pub opened-placed : {S : Type 0} (seen inner : S → SourceView) (d : DeskView) (conf : InputConf) (part : InputPart S) → finds_again conf ≡ false → OpensInput seen inner d conf part → IsPlaced seen part
+opened-placed seen inner d (input.File name form false) (Stream source) is opens = λ own units. six-units form own (sym (ap (λ (v : SourceView). v.origin.unit) opens.1) ∙ units)
+opened-placed seen inner d (input.File name form true) (Stream source) is opens = absurd (let e : true ≡ false = is in cc)
+opened-placed seen inner d (input.Null count) (Stream source) is opens = absurd opens
+opened-placed seen inner d (input.TestGen seed count) (Stream source) is opens = absurd opens
+opened-placed seen inner d conf (Nulls packets) is opens = tt
+opened-placed seen inner d conf (Generated generator packets) is opens = tt
+
+-- while the run goes: what was told goes on
+pub live-file : {S : Type 0} (seen inner : S → SourceView) (part new : InputPart S) (s : model.Stuffing) (all : Option KeptGaps) (told_form form : Form) (gaps : List Gap) (at : ℕ) (why : Cause) (file : List ℕ) (kept : KeptGaps)
+    → 1 ≤ s.every → all ≡ Some kept → ToldGaps seen s part at told_form gaps → KeptOfFile seen inner part new form file kept → ExtendsTold s told_form gaps at all why (left_out_of true form file)
+live-file seen inner part new s all told_form form gaps at why file kept some is told of =
+    let view : (seen of.source).origin ≡ found_origin form (Some file) = ap (λ (v : SourceView). v.origin) of.view ∙ ap (found_origin form) of.left in
+    let bytes : (seen of.source).left ≡ Some (found_in form file).bytes = ap (λ (v : SourceView). v.left) of.view ∙ ap (option_map (λ f. (found_in form f).bytes)) of.left in
+    let own : gaps ≡ filter (below s at) (found_in form file).gaps = told.known of.source form file of.part_is bytes view of.small in
+    let rest = split-gaps s at 0 (found_in form file).gaps some (gaps-rise form file) in
+    subst (λ (k : Option KeptGaps). ExtendsTold s told_form gaps at k why (left_out_of true form file)) (sym is) (
+      record {
+        later = rest.later;
+        all_are = rest.are ∙ ap (λ (l : List Gap). l ++ rest.later) (sym own);
+        behind = rest.behind;
+        form_is = sym (told.form_is of.source form of.part_is (ap (λ (o : Origin). o.unit) view));
+      },
+      λ at_end over. ap (λ (f : Form). (found_in f file).behind) (sym (form-kept seen inner part new form file kept of))
+          ∙ of.ends.4 file (ap (λ (o : Origin). o.bytes) (from-file seen inner part new form file kept of)) over,
+    )
 
 -- of an input that is no file no gaps are kept
 nulls-kept : {S : Type 0} (seen inner : S → SourceView) (s : model.Stuffing) (buffer packets cut : ℕ) (why : Cause) (new : InputPart S) (kept : Option KeptGaps) → IsThrough seen inner new kept
@@ -234,11 +291,25 @@ generated-kept seen inner s buffer packets cut generator why (Stream now) kept t
 generated-kept seen inner s buffer packets cut generator why (Nulls now) kept through left = absurd left
 
 -- the list of an input that was opened is that of the plan, over some files
-pub opened-list : {S : Type 0} (seen inner : S → SourceView) (d : DeskView) (conf : InputConf) (part new : InputPart S) (s : model.Stuffing) (list : StageList) (kept : Option KeptGaps) (buffer cut : ℕ) (why : Cause)
-    → 1 ≤ s.every → OpensInput seen inner d conf part → IsListOf seen part s list → IsThrough seen inner new kept → LeftInput seen s buffer part new cut why → FilesOf d conf s list kept
-opened-list seen inner d (input.File name form resync) (Stream source) (Stream now) s list kept buffer cut why some opens is through left =
-    let chosen = given-of-file d.files name form resync s (inner source) (seen source) (seen now) (inner now) is.0 kept some
-    (ap (λ (v : SourceView). v.left) opens.0) opens.2 opens.1 (same-origin (seen source) (seen now) left.read left.source).1 through is.2 in
+pub opened-list : {S : Type 0} (Fits : Option LeftOut → Type 0) (seen inner : S → SourceView) (d : DeskView) (conf : InputConf) (part new : InputPart S) (s left_with : model.Stuffing) (list : StageList) (kept : Option KeptGaps) (buffer cut : ℕ) (why : Cause)
+    → (kept ≡ None → finds_again conf ≡ false → Fits None) → ((k : KeptGaps) → kept ≡ Some k → (out : LeftOut) × Fits (Some out))
+    → ((k : KeptGaps) (form : Form) (file : List ℕ) → kept ≡ Some k → KeptOfFile seen inner part new form file k → Fits (left_out_of true form file))
+    → OpensInput seen inner d conf part → IsListOf seen part s list → IsThrough seen inner new kept → LeftInput seen left_with buffer part new cut why → FilesOf d conf s list Fits
+opened-list Fits seen inner d (input.File name form resync) (Stream source) (Stream now) s left_with list kept buffer cut why none unknown known opens is through left =
+    let same = (same-origin (seen source) (seen now) left.read left.source).1 in
+    let chosen = given-of-file Fits d.files name form resync (inner source) (seen source) (seen now) (inner now) is.0 kept none unknown
+    (λ k file kept_is found e. known k form file kept_is (record {
+      source = source;
+      part_is = refl;
+      left = e;
+      view = subst (λ (r : Bool). seen source ≡ packets_view r form (inner source)) found opens.1;
+      small = subst (λ (o : Option (List ℕ)). told_length o < 2 ^ 63) e opens.2;
+      now = now;
+      new_is = refl;
+      same = same;
+      ends = subst (λ (o : Option KeptGaps). EndsAs (seen now) (inner now) o) kept_is through;
+    }))
+    (ap (λ (v : SourceView). v.left) opens.0) opens.1 same through is.2 in
     record {
       files = chosen.files;
       files_are = chosen.files_are;
@@ -247,9 +318,9 @@ opened-list seen inner d (input.File name form resync) (Stream source) (Stream n
       list_is = is.1;
       said = chosen.said;
     }
-opened-list seen inner d (input.File name form resync) (Stream source) (Nulls now) s list kept buffer cut why some opens is through left = absurd left
-opened-list seen inner d (input.File name form resync) (Stream source) (Generated now many) s list kept buffer cut why some opens is through left = absurd left
-opened-list seen inner d (input.Null count) (Nulls packets) new s list kept buffer cut why some opens is through left =
+opened-list Fits seen inner d (input.File name form resync) (Stream source) (Nulls now) s left_with list kept buffer cut why none unknown known opens is through left = absurd left
+opened-list Fits seen inner d (input.File name form resync) (Stream source) (Generated now many) s left_with list kept buffer cut why none unknown known opens is through left = absurd left
+opened-list Fits seen inner d (input.Null count) (Nulls packets) new s left_with list kept buffer cut why none unknown known opens is through left =
     let chosen = files-of-nulls d.files in
     record {
       files = chosen.0;
@@ -257,15 +328,15 @@ opened-list seen inner d (input.Null count) (Nulls packets) new s list kept buff
       given = all_of (input_of_nulls count);
       given_is = refl;
       list_is = is ∙ ap (λ n. stuffed s (input_of_nulls n)) opens;
-      said = nothing-said s kept (nulls-kept seen inner s buffer packets cut why new kept through left);
+      said = none (nulls-kept seen inner left_with buffer packets cut why new kept through left) refl;
     }
-opened-list seen inner d (input.File name form resync) (Nulls packets) new s list kept buffer cut why some opens is through left = absurd opens
-opened-list seen inner d (input.Null count) (Stream source) new s list kept buffer cut why some opens is through left = absurd opens
-opened-list seen inner d (input.File name form resync) (Generated generator packets) new s list kept buffer cut why some opens is through left = absurd opens
-opened-list seen inner d (input.Null count) (Generated generator packets) new s list kept buffer cut why some opens is through left = absurd opens
-opened-list seen inner d (input.TestGen seed count) (Stream source) new s list kept buffer cut why some opens is through left = absurd opens
-opened-list seen inner d (input.TestGen seed count) (Nulls packets) new s list kept buffer cut why some opens is through left = absurd opens
-opened-list seen inner d (input.TestGen seed count) (Generated generator packets) new s list kept buffer cut why some opens is through left =
+opened-list Fits seen inner d (input.File name form resync) (Nulls packets) new s left_with list kept buffer cut why none unknown known opens is through left = absurd opens
+opened-list Fits seen inner d (input.Null count) (Stream source) new s left_with list kept buffer cut why none unknown known opens is through left = absurd opens
+opened-list Fits seen inner d (input.File name form resync) (Generated generator packets) new s left_with list kept buffer cut why none unknown known opens is through left = absurd opens
+opened-list Fits seen inner d (input.Null count) (Generated generator packets) new s left_with list kept buffer cut why none unknown known opens is through left = absurd opens
+opened-list Fits seen inner d (input.TestGen seed count) (Stream source) new s left_with list kept buffer cut why none unknown known opens is through left = absurd opens
+opened-list Fits seen inner d (input.TestGen seed count) (Nulls packets) new s left_with list kept buffer cut why none unknown known opens is through left = absurd opens
+opened-list Fits seen inner d (input.TestGen seed count) (Generated generator packets) new s left_with list kept buffer cut why none unknown known opens is through left =
     let chosen = files-of-nulls d.files in
     record {
       files = chosen.0;
@@ -275,8 +346,35 @@ opened-list seen inner d (input.TestGen seed count) (Generated generator packets
       list_is = is
           ∙ ap (λ (n : ℕ). stuffed s (input_of_generated generator.seed n)) opens.1
           ∙ ap (λ (g : Generator). stuffed s (input_of_generated g.seed count)) opens.0;
-      said = nothing-said s kept (generated-kept seen inner s buffer packets cut generator why new kept through left);
+      said = none (generated-kept seen inner left_with buffer packets cut generator why new kept through left) refl;
     }
+
+-- the two ways in which a run reports what is left out
+pub plain-list : {S : Type 0} (seen inner : S → SourceView) (d : DeskView) (conf : InputConf) (part new : InputPart S) (s left_with : model.Stuffing) (list : StageList) (kept : Option KeptGaps) (buffer cut : ℕ) (why : Cause) → 1 ≤ s.every
+    → OpensInput seen inner d conf part → IsListOf seen part s list → IsThrough seen inner new kept → LeftInput seen left_with buffer part new cut why → FilesOf d conf s list (SameSaid s kept)
+plain-list seen inner d conf part new s left_with list kept buffer cut why some opens is through left =
+    opened-list (SameSaid s kept) seen inner d conf part new s left_with list kept buffer cut why
+    (λ none placed. nothing-said s kept none)
+    (λ k kept_is. (
+      record { form = k.form; gaps = k.gaps.items; behind = k.behind },
+      subst (λ (o : Option KeptGaps). SameSaid s o (Some (let out : LeftOut = record { form = k.form; gaps = k.gaps.items; behind = k.behind } in out))) (sym kept_is) (λ bare m why all. (refl, refl)),
+    ))
+    (λ k form file kept_is of. plain-file seen inner part new s kept form file k some kept_is of)
+    opens is through left
+
+pub live-list : {S : Type 0} (seen inner : S → SourceView) (d : DeskView) (conf : InputConf) (part new : InputPart S) (s left_with : model.Stuffing) (list : StageList) (kept : Option KeptGaps) (buffer cut : ℕ) (why : Cause)
+    (form : Form) (gaps : List Gap) (at : ℕ) → 1 ≤ s.every → ToldGaps seen s part at form gaps
+    → OpensInput seen inner d conf part → IsListOf seen part s list → IsThrough seen inner new kept → LeftInput seen left_with buffer part new cut why → FilesOf d conf s list (ExtendsTold s form gaps at kept why)
+live-list seen inner d conf part new s left_with list kept buffer cut why form gaps at some told opens is through left =
+    opened-list (ExtendsTold s form gaps at kept why) seen inner d conf part new s left_with list kept buffer cut why
+    (λ none placed. subst (λ (o : Option KeptGaps). ExtendsTold s form gaps at o why None) (sym none) (told.placed (opened-placed seen inner d conf part placed opens)))
+    (λ k kept_is. (
+      record { form = form; gaps = gaps; behind = k.behind },
+      subst (λ (o : Option KeptGaps). ExtendsTold s form gaps at o why (Some (let out : LeftOut = record { form = form; gaps = gaps; behind = k.behind } in out))) (sym kept_is)
+          (record { later = []; all_are = sym (append-nil gaps); behind = tt; form_is = refl }, λ at_end over. refl),
+    ))
+    (λ k own file kept_is of. live-file seen inner part new s kept form own gaps at why file k some kept_is told of)
+    opens is through left
 
 -- an input that was opened is unused
 pub opened-unused : {S : Type 0} (seen inner : S → SourceView) (d : DeskView) (conf : InputConf) (part : InputPart S) → OpensInput seen inner d conf part → IsUnused part

@@ -23,3 +23,4 @@ pub mod TableEnds
 pub mod TspCall
 pub mod Headline
 pub mod WantsMemory
+pub mod InputRounds

@@ -51,6 +51,12 @@ abbrev pub NamesOutput : OutputConf → Type 0
 NamesOutput (output.File name) = Unit {0}
 NamesOutput output.Drop = ⊥
 
+-- packets are found again in the input
+abbrev pub finds_again : InputConf → Bool
+finds_again (input.File name form resync) = resync
+finds_again (input.Null count) = false
+finds_again (input.TestGen seed count) = false
+
 -- so many packets of the generated stream of a seed, of which none was given
 abbrev pub IsGenerated : {S : Type 0} → ℕ → ℕ → InputPart S → Type 0
 IsGenerated seed count (Generated generator packets) =

@@ -1,13 +1,13 @@
 -- The report of a run as the general options ask for it: with or without the plugins' numbers and names, and in the order of
 -- plugins or, with `--live`, in that of packets. This project's own rule.
-use Rattle.std.specs.Prelude.{ℕ, suc, Bool, true, List, [], ◌∷◌, ◌++◌, ◌==◌, take, codes, if◌then◌else◌, Option, None, Some}
+use Rattle.std.specs.Prelude.{ℕ, suc, Bool, true, false, List, [], ◌∷◌, ◌++◌, ◌==◌, map, take, codes, if◌then◌else◌, Option, None, Some}
 use Rattle.ts_packet.specs.declared.cell.Cell.{Cell}
 use Rattle.std.specs.List.{flat_map}
 use Rattle.std.specs.Fmt.{decimal}
 use Rattle.packet_forms.specs.declared.forms.Form.{Form}
 use Rattle.search_source.specs.declared.gap.Gap.{Gap}
 use Rattle.chain_model.specs.Stuffed.{Stuffing}
-use Rattle.tsp_top.specs.LeftOut.{LeftOut, all_counts, counts_text, gap_text, is_below, left_behind}
+use Rattle.tsp_top.specs.LeftOut.{LeftOut, all_counts, counts_text, gap_text, is_below, left_behind, position_of}
 use Rattle.tsp_top.specs.PlannedChain.{stuffing_of}
 use Rattle.chain_args.specs.declared.general_conf.GeneralConf.{GeneralConf}
 use Rattle.chain_model.specs.PluginRule.{PluginRule}
@@ -16,7 +16,8 @@ use Rattle.chain_model.specs.StageLists.{stage_list}
 use Rattle.chain_model.specs.declared.cause.Cause.{Cause}
 use Rattle.chain_model.specs.Reports.{NamedRule, end_line, plugin_line, said_of, rules_of, reports}
 use Rattle.chain_model.specs.PureRun.{Chain, chain_rules}
-use Rattle.chain_live.specs.LiveReports.{LiveLine, lines_below, list_met, printed_below, summaries_from}
+use Rattle.chain_live.specs.LiveReports.{LiveLine, list_met, summaries_from}
+use Rattle.chain_tells.specs.InputLines.{lines_with}
 
 -- a line of plugin `j` as it is printed, bare or not: its text alone, or behind the plugin's number and name
 abbrev pub printed_line : Bool → ℕ → List ℕ → List ℕ → List ℕ
@@ -32,6 +33,13 @@ abbrev pub end_printed : Bool → ℕ → List ℕ
 end_printed bare behind =
     if behind == 0 then [] else printed_line bare 0 (codes "file") (decimal behind ++ codes " bytes left out at the end")
 
+-- what the input reports of a run that was cut at `m` for this cause, behind the lines of its gaps: its summary
+abbrev pub input_ended : Bool → Stuffing → Option LeftOut → ℕ → Cause → List ℕ
+input_ended bare stuffing None m why = []
+input_ended bare stuffing (Some left_out) m why =
+    end_printed bare (left_behind why left_out.behind)
+    ++ printed_line bare 0 (codes "file") (counts_text (all_counts stuffing m why left_out))
+
 -- what the input reports of a run that was cut at `m` for this cause, in front of plugin 1: nothing where its packets are at
 -- their places; else a line for each gap before the cut, and its summary
 abbrev pub input_printed : Bool → Stuffing → Option LeftOut → ℕ → Cause → List ℕ
@@ -40,6 +48,20 @@ input_printed bare stuffing (Some left_out) m why =
     flat_map (gap_printed bare stuffing m left_out.form) left_out.gaps
     ++ (end_printed bare (left_behind why left_out.behind)
     ++ printed_line bare 0 (codes "file") (counts_text (all_counts stuffing m why left_out)))
+
+-- a gap as a line: at the position of the packet behind it, of the number 0
+abbrev pub gap_line : Stuffing → Form → Gap → LiveLine
+gap_line stuffing form gap =
+    record { at = position_of stuffing gap.before; plugin = 0; name = codes "file"; text = gap_text form gap }
+
+-- the lines of the input: one for each gap
+abbrev pub input_lines : Stuffing → Option LeftOut → List LiveLine
+input_lines stuffing None = []
+input_lines stuffing (Some left_out) = map (gap_line stuffing left_out.form) left_out.gaps
+
+-- the lines of a chain and its input at the positions below `m`
+abbrev pub told_lines : GeneralConf → Option LeftOut → Chain → ℕ → List LiveLine
+told_lines general left_out chain m = lines_with (input_lines (stuffing_of general) left_out) chain m
 
 -- what `said` gives of plugin `j` and of those after it, as it is printed: each over the first `m` cells of the list that it
 -- meets
@@ -73,15 +95,17 @@ live_line bare line = printed_line bare line.plugin line.name line.text
 abbrev pub live_text : Bool → List LiveLine → List ℕ
 live_text bare lines = flat_map (live_line bare) lines
 
--- what is reported with `--live` of a run of a chain that was cut at `m` for this cause: the lines in the order of packets, then
--- what the input reports, the summaries, and the line for the end; with `--bare` the lines alone, and no line for the end
-abbrev pub live_asked : Bool → List ℕ → Chain → ℕ → Cause → List ℕ
-live_asked bare said chain m cause =
-    if bare then live_text true (lines_below chain m) ++ (said ++ summaries_printed true (chain_rules chain) chain.input m 0 chain.plugins)
-    else printed_below chain m ++ (said ++ (summaries_from (list_met chain) m 0 chain.plugins ++ end_line cause m))
+-- what is reported with `--live` of a run of a chain that was cut at `m` for this cause: the lines in the order of packets, those of
+-- the input in front at each; then what else the input reports, the summaries, and the line for the end; with `--bare` the lines
+-- alone, and no line for the end
+abbrev pub live_asked : Bool → List LiveLine → List ℕ → Chain → ℕ → Cause → List ℕ
+live_asked bare lines said chain m cause =
+    if bare then live_text true lines ++ (said ++ summaries_printed true (chain_rules chain) chain.input m 0 chain.plugins)
+    else live_text false lines ++ (said ++ (summaries_from (list_met chain) m 0 chain.plugins ++ end_line cause m))
 
 -- what is reported of a run of a chain, as the general options ask
 abbrev pub reported_as : GeneralConf → Option LeftOut → Chain → ℕ → Cause → List ℕ
 reported_as general left_out chain m cause =
-    if general.live then live_asked general.bare (input_printed general.bare (stuffing_of general) left_out m cause) chain m cause
+    if general.live
+    then live_asked general.bare (told_lines general left_out chain m) (input_ended general.bare (stuffing_of general) left_out m cause) chain m cause
     else input_printed general.bare (stuffing_of general) left_out m cause ++ reports_asked general chain.plugins chain.input m cause

@@ -1,5 +1,5 @@
 -- A chain that ran between its two opened ends. This project's own rule.
-use Rattle.std.specs.Prelude.{◌≡◌, ◌≤◌, ℕ, List, map, Bool, ◌⊎◌, ◌||◌, Option, Result, IfOk, OnErr}
+use Rattle.std.specs.Prelude.{◌≡◌, ◌≤◌, ℕ, List, map, Bool, true, ◌⊎◌, ◌||◌, Option, Result, IfOk, OnErr}
 use Rattle.std.specs.declared.alloc.AllocError.{AllocError}
 use Rattle.std.specs.Bool.{OnTrue}
 use Rattle.ts_packet.specs.declared.cell.Cell.{Cell}
@@ -23,8 +23,9 @@ use Rattle.chain_run.specs.Fresh.{AreFresh}
 use Rattle.chain_run.specs.RunOf.{RunBy, NeverBegan}
 use Rattle.chain_model.specs.Apply.{StageList}
 use Rattle.chain_model.specs.PureRun.{Chain}
-use Rattle.chain_live.specs.LiveReports.{lines_below}
 use Rattle.plugin_settings.specs.Items.{preallocated_of_item}
+use Rattle.packet_forms.specs.declared.forms.Form.{Form}
+use Rattle.search_source.specs.declared.gap.Gap.{Gap}
 use Rattle.search_source.specs.declared.file_source.KeptGaps.{KeptGaps}
 use Rattle.tsp_top.specs.ByPlugin.{by_plugin}
 use Rattle.tsp_top.specs.PlannedChain.{stuffing_of, named_rules, users_of}
@@ -32,8 +33,9 @@ use Rattle.tsp_top.specs.PlannedTables.{AreTables, tables_asked}
 use Rattle.tsp_top.specs.PlannedCore.{IsPlannedCore}
 use Rattle.tsp_top.specs.Openings.{asked_input, asked_output, OpensInput, OpensOutput, IsThrough, input_closed_as, output_closed_as, WasOpened}
 use Rattle.tsp_top.specs.Faults.{faults_from}
-use Rattle.tsp_top.specs.LeftOut.{KnowsAll, input_faulty, kept_out}
-use Rattle.tsp_top.specs.Printed.{reported_as}
+use Rattle.tsp_top.specs.InputRounds.{IsLeftOut, Knows, ToldGaps}
+use Rattle.tsp_top.specs.LeftOut.{LeftOut, input_faulty}
+use Rattle.tsp_top.specs.Printed.{reported_as, told_lines}
 use Rattle.tsp_top.specs.Reported.{ReportsAsked}
 use Rattle.tsp_top.specs.declared.status.Status.{Status}
 use Rattle.tsp_top.specs.declared.status.Status.TheVariants.{NoMemory}
@@ -98,11 +100,18 @@ pub record RanClosed {S K P : Type 0} (see : Seeing S K P) (stands : Heard P →
     (failed : Bool) (status : Status) (closed : Closed) : Type 0 where
   pub made : List (Heard P)
   pub run : RunBy see stands from made_from stuffing plugins made to made_to numbers closed
-  pub reported : ReportsAsked plan.general (reported_as plan.general (kept_out kept) (chain_over plan tables run.list) closed.cut closed.cause)
-      (lines_below (chain_over plan tables run.list) closed.cut)
-      (input_faulty (stuffing_of plan.general) (kept_out kept) closed.cut closed.cause
+  -- the gaps of the input that were told before a position while it ran, and their form
+  pub form : Form
+  pub gaps : List Gap
+  pub at : ℕ
+  pub told : plan.general.live ≡ true → ToldGaps see.source (stuffing_of plan.general) from at form gaps
+  pub reported : (left_out : Option LeftOut) → IsLeftOut plan.general.live (stuffing_of plan.general) form gaps at kept closed.cause left_out
+      → ReportsAsked plan.general (reported_as plan.general left_out (chain_over plan tables run.list) closed.cut closed.cause)
+      (told_lines plan.general left_out (chain_over plan tables run.list) closed.cut)
+      (input_faulty (stuffing_of plan.general) left_out closed.cut closed.cause
       || faults_from (rules_of (named_rules plan.plugins tables)) run.list closed.cut 0 (named_rules plan.plugins tables))
-      (KnowsAll (stuffing_of plan.general) kept closed.cut closed.cause) closed.cause failed (closed_desk inner see.sink old made_from made_to failed) new status
+      (Knows plan.general.live (stuffing_of plan.general) kept closed.cut closed.cause) closed.cause failed
+      (closed_desk inner see.sink old made_from made_to failed) new status
 
 -- there was no memory for the run: the ends were closed as they were opened
 pub record NotRun {S K P : Type 0} (see : Seeing S K P) (inner : S → SourceView) (old new : DeskView)

@@ -18,8 +18,8 @@ use Rattle.tsp_top.specs.CallOutcome.{CallOutcome, no_input, no_output, ran, unr
 use Rattle.tsp_top.specs.CanEnd.{CanEnd}
 use Rattle.tsp_top.specs.LeftOut.{LeftOut}
 use Rattle.tsp_top.specs.PlannedChain.{GivenInput, chain_on, GivesInput, input_name, output_name}
-use Rattle.chain_live.specs.LiveReports.{LiveLine, lines_below}
-use Rattle.tsp_top.specs.Printed.{live_text, reported_as}
+use Rattle.chain_live.specs.LiveReports.{LiveLine}
+use Rattle.tsp_top.specs.Printed.{live_text, reported_as, told_lines}
 use Rattle.tsp_top.specs.Readings.{ReadsNothing, ReadsTo}
 use Rattle.tsp_top.specs.declared.status.Status.{Status}
 
@@ -86,7 +86,7 @@ Reports plan left_out chain old new no_input = ReportsText old new (codes "tsp: 
 Reports plan left_out chain old new no_output = ReportsText old new (codes "tsp: cannot open output" ++ 10 ∷ [])
 Reports plan left_out chain old new (ran cut why late) = ReportsText old new (reported_as plan.general left_out chain cut why)
 Reports plan left_out chain old new (unreported cut why) =
-    ReportsPart plan.general.live plan.general.bare (lines_below chain cut) old new
+    ReportsPart plan.general.live plan.general.bare (told_lines plan.general left_out chain cut) old new
 Reports plan left_out chain old new out_of_memory = ReportsNothing old new
 
 -- what is opened: first the input, then the output, and each went well but the last where the call says so

@@ -15,7 +15,8 @@ use crate::opening::{PacketSource, close_input, open_input, open_output};
 use crate::ready::{ReadyChain, ready_chain};
 use crate::status::Status;
 use crate::tables::read_tables;
-use chain_args::Plan;
+use chain_args::{GeneralConf, Plan};
+use chain_core::CorePlan;
 use chain_run::Stages;
 use plugin_set::AnyPlugin;
 use plugin_trait::Plugin;
@@ -23,6 +24,9 @@ use stage_run::InputPart;
 use std::alloc::{AllocError, Global};
 use ts_outside::{Desk, OpenFault, Source, say};
 use ts_section::Section;
+
+/// So many packets and more are begun before the first of them is given on.
+const PACKETS_IN_HAND: u64 = 8;
 
 /// Reads the tables of a plan and opens its ends. Returns the open call, ready for this driver, or the status of a call that is
 /// over.
@@ -73,6 +77,16 @@ fn begin_chain<D: Desk>(
     }
 }
 
+/// How many packets back the gaps of the input are kept. A report that is printed while the run goes needs those before the
+/// packets that are in the buffer, and before one in hand; any other needs all.
+fn kept_packets(general: &GeneralConf, core: &CorePlan) -> u64 {
+    if general.live {
+        (core.buffer as u64).saturating_add(PACKETS_IN_HAND)
+    } else {
+        u64::MAX
+    }
+}
+
 /// Opens the input and then the output.
 fn open_ends<P: Plugin + Drop, D: Desk>(
     alloc: Global,
@@ -89,7 +103,8 @@ fn open_ends<P: Plugin + Drop, D: Desk>(
         call.stages.input call.stages.stuffing call.stages.plugins.items call.stages.output)
         (λ status. IsOverBefore plan.now tables (D.seen desk.old) (D.seen desk.new) status) }
 {
-    match open_input(alloc, desk, &plan.input) {
+    let keep = kept_packets(&plan.general, &ready.core);
+    match open_input(alloc, desk, &plan.input, keep) {
         Ok(input) => open_after(desk, plan, ready, input),
         Err(OpenFault::Failed) => {
             say(desk, "tsp: cannot open input\n");

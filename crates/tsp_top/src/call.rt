@@ -3,6 +3,7 @@ ghost use Rattle.std.specs.Prelude.{◌≡◌, map, false, true, IfSome, Some};
 ghost use Rattle.std.specs.String.{string_bytes};
 ghost use Rattle.chain_args.specs.ValidPlan.{IsValidPlan};
 ghost use Rattle.chain_args.specs.PlanOf.{plan_of};
+ghost use Rattle.tsp_top.specs.Openings.{finds_again};
 ghost use Rattle.tsp_top.specs.TspCall.{CallsPlan, CallsTsp};
 
 use crate::beginning::begin_plan;
@@ -16,7 +17,7 @@ use crate::one_thread::run_in_one_thread;
 use crate::opened_call::OpenedCall;
 use crate::status::Status;
 use crate::words::refuse_words;
-use chain_args::{Plan, WordsFault, plan};
+use chain_args::{InputConf, Plan, WordsFault, plan};
 use std::alloc::Global;
 use std::sync::Wait;
 use std::thread::Threads;
@@ -46,8 +47,8 @@ use ts_outside::{Desk, Gate};
 /// Each stage of the chain has a thread of its own where the program may use two processors and the words do not ask for one
 /// thread; else one thread serves all stages. The runtime starts the threads and waits for them.
 ///
-/// Where the words ask for it (`--live`), the input has a thread of its own, where the others would, and one thread serves all other
-/// stages; and each line of a plugin is reported soon after its packet
+/// Where the words ask for it (`--live`), the input has a thread of its own, where the others would and its packets are not found
+/// again, and one thread serves all other stages; and each line of a plugin is reported soon after its packet
 /// was written, in the order of packets, before the ends are closed; the summaries and the end line are reported after that. Where
 /// memory runs out for the rest of such a report, its first lines stand reported, and the status is `NoMemory`.
 pub fn tsp_call<R: Threads + Wait + Sync, D: Desk, G: Gate>(
@@ -191,14 +192,46 @@ fn run_plan<R: Threads + Wait + Sync, D: Desk, G: Gate>(
     ensures { CallsPlan plan.now (D.seen desk.old) (D.seen desk.new) result }
 {
     if plan.general.live {
-        return match driver {
-            Driver::InOneThread => run_plan_live(alloc, plan, desk, gate, notes),
-            _ => run_plan_live_apart(rt, alloc, plan, desk, gate, notes),
-        };
+        return run_plan_telling(rt, alloc, plan, desk, gate, driver, notes);
     }
     match driver {
         Driver::InOneThread => run_plan_in_one_thread(alloc, plan, desk, gate, notes),
         _ => run_plan_in_threads(rt, alloc, plan, desk, gate, notes),
+    }
+}
+
+/// The same of a plan whose lines are printed while it goes. Where the input has lines too, one thread serves all stages: they are
+/// read from its source between two rounds.
+fn run_plan_telling<R: Threads + Wait + Sync, D: Desk, G: Gate>(
+    rt: &R,
+    alloc: Global,
+    plan: &Plan,
+    desk: &mut D,
+    gate: &G,
+    driver: Driver,
+    notes: &mut PluginNotes,
+) -> Status
+    requires valid { IsValidPlan plan.now }
+    requires live { plan.now.general.live ≡ true }
+    ensures { CallsPlan plan.now (D.seen desk.old) (D.seen desk.new) result }
+{
+    if is_found_again(&plan.input) {
+        return run_plan_live(alloc, plan, desk, gate, notes);
+    }
+    match driver {
+        Driver::InOneThread => run_plan_live(alloc, plan, desk, gate, notes),
+        _ => run_plan_live_apart(rt, alloc, plan, desk, gate, notes),
+    }
+}
+
+/// Whether the packets of the input are found again.
+fn is_found_again(conf: &InputConf) -> bool
+    ensures { result ≡ finds_again conf.now }
+{
+    match conf {
+        InputConf::File { resync, .. } => *resync,
+        InputConf::Null(_) => false,
+        InputConf::TestGen { .. } => false,
     }
 }
 
@@ -252,6 +285,7 @@ fn run_plan_live_apart<R: Threads + Wait + Sync, D: Desk, G: Gate>(
 ) -> Status
     requires valid { IsValidPlan plan.now }
     requires live { plan.now.general.live ≡ true }
+    requires placed { finds_again plan.now.input ≡ false }
     ensures { CallsPlan plan.now (D.seen desk.old) (D.seen desk.new) result }
 {
     match begin_plan(alloc, desk, plan, Driver::InputApart) {

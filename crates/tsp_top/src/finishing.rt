@@ -96,7 +96,7 @@ pub(crate) fn finish_live<P: Plugin + SeesTables + Drop, D: Desk>(
         → map (by_plugin P.rule) run.end.plugins.items ≡ rules_of (named_rules plan.now.plugins tables)
         → EndsLive (seeing ⟦<PacketSource<D::In> as Source>⟧.seen D.Out.seen P.rule P.stands_for P.preallocated)
         plan.now stuffing numbers from run.end.input plugins run.end.plugins.items to run.end.output
-        opened (D.seen desk.old) run.printed.failed run.printed.whole run.end.closed
+        opened (D.seen desk.old) run.printed.failed run.printed.whole run.printed.counts run.end.closed
         → RanOpened (seeing ⟦<PacketSource<D::In> as Source>⟧.seen D.Out.seen P.rule P.stands_for P.preallocated)
         (plugin_stands P.stands_for) (of_either (λ placed. D.In.seen placed.source) (λ found. D.In.seen found.source.source))
         plan.now tables stuffing numbers opened (D.seen desk.new) from plugins to result }

@@ -5,6 +5,8 @@ ghost use Rattle.std.specs.Fmt.{decimal};
 ghost use Rattle.std.specs.String.{string_bytes};
 ghost use Rattle.chain_args.specs.ValidPlan.{IsValidGeneral};
 ghost use Rattle.tsp_top.specs.LeftOut.{KnowsAll, all_counts, counts_below, counts_text, gap_text, has_gaps, input_faulty, is_at_end, is_below, kept_out, left_behind, position_of, with_below};
+ghost use Rattle.search_source.specs.Gaps.{with_end};
+ghost use Rattle.tsp_top.specs.InputRounds.{KnowsEnd, rest_faulty, rest_printed};
 ghost use Rattle.tsp_top.specs.PlannedChain.{stuffing_of};
 ghost use Rattle.tsp_top.specs.Printed.{end_printed, gap_printed, input_printed, printed_line};
 
@@ -38,7 +40,7 @@ fn is_below(general: &GeneralConf, cut: u64, number: u64) -> bool
 }
 
 /// What is said of a gap.
-fn gap_line(alloc: Global, form: Form, gap: Gap) -> Result<String, AllocError>
+pub(crate) fn gap_line(alloc: Global, form: Form, gap: Gap) -> Result<String, AllocError>
     ensures { IfOk result (λ text. string_bytes text ≡ gap_text form gap) }
 {
     let Gap { before, bytes } = gap;
@@ -49,7 +51,7 @@ fn gap_line(alloc: Global, form: Form, gap: Gap) -> Result<String, AllocError>
 }
 
 /// Appends a line of the input.
-fn push_input_line(text: &mut String, bare: bool, said: &str) -> Result<(), AllocError>
+pub(crate) fn push_input_line(text: &mut String, bare: bool, said: &str) -> Result<(), AllocError>
     ensures { OnOk result (string_bytes text.new ≡ string_bytes text.old ++ printed_line bare 0 (codes "file") said.now) }
 {
     push_line(text, bare, 0, INPUT_NAME, said)
@@ -239,4 +241,58 @@ pub(crate) fn push_input(
         return Err(AllocError);
     }
     push_kept(alloc, text, general, kept, closed)
+}
+
+/// Whether nothing is wanting to what is said of the end: where the run came to the plain end of its input, nothing more is found.
+fn came_to_end(kept: &KeptGaps, closed: Closed) -> bool
+    ensures { result ≡ true → is_at_end closed.cause ≡ true → kept.now.over ≡ true }
+{
+    if is_at_end(closed.cause) {
+        return kept.over;
+    }
+    true
+}
+
+/// Appends what is left to report of an input whose gaps were told while the run went, and returns whether something is left out.
+fn push_rest(
+    alloc: Global,
+    text: &mut String,
+    bare: bool,
+    kept: &KeptGaps,
+    counts: GapCounts,
+    closed: Closed,
+) -> Result<bool, AllocError>
+    ensures said { OnOk result (string_bytes text.new
+        ≡ string_bytes text.old ++ (end_printed bare (left_behind closed.cause kept.now.behind)
+        ++ printed_line bare 0 (codes "file") (counts_text (with_end counts (left_behind closed.cause kept.now.behind))))) }
+    ensures faulty { IfOk result (λ faulty. faulty ≡ has_gaps (with_end counts (left_behind closed.cause kept.now.behind))) }
+{
+    let behind = behind_at_end(closed.cause, kept.behind);
+    push_end(alloc, text, bare, behind)?;
+    let counts = counts.with_end(behind);
+    push_counts(alloc, text, bare, counts)?;
+    Ok(any_gap(counts))
+}
+
+/// Appends what is left to report of the input in front of the plugins' summaries, where its gaps were told while the run went and
+/// counted, and returns whether it has a fault.
+pub(crate) fn push_input_rest(
+    alloc: Global,
+    text: &mut String,
+    bare: bool,
+    kept: &Option<KeptGaps>,
+    counts: GapCounts,
+    closed: Closed,
+) -> Result<bool, AllocError>
+    ensures said { OnOk result (string_bytes text.new ≡ string_bytes text.old ++ rest_printed bare counts kept.now closed.cause) }
+    ensures faulty { IfOk result (λ faulty. faulty ≡ rest_faulty counts kept.now closed.cause) }
+    ensures known { OnOk result (KnowsEnd kept.now closed.cause) }
+{
+    let Some(kept) = kept else {
+        return Ok(false);
+    };
+    if !came_to_end(kept, closed) {
+        return Err(AllocError);
+    }
+    push_rest(alloc, text, bare, kept, counts, closed)
 }

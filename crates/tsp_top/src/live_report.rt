@@ -1,27 +1,29 @@
 //! The end of a report that was printed while the run went: the summaries of the plugins, then the line for the end.
-ghost use Rattle.std.specs.Prelude.{◌≡◌, ◌<◌, ◌+◌, ◌^◌, ◌≤◌, ◌++◌, ◌||◌, ℕ, List, [], length, map, take, true, IfOk, OnOk, if◌then◌else◌};
+ghost use Rattle.std.specs.Prelude.{◌≡◌, ◌<◌, ◌+◌, ◌^◌, ◌≤◌, ◌++◌, ◌||◌, ℕ, List, Option, [], length, map, take, true, false, IfOk, OnOk, if◌then◌else◌};
+ghost use Rattle.std.specs.List.{AllByRecursion};
 ghost use Rattle.std.specs.String.{string_bytes};
 ghost use Rattle.ts_packet.specs.declared.cell.Cell.{Cell};
 ghost use Rattle.chain_model.specs.Apply.{StageList};
 ghost use Rattle.chain_model.specs.PluginRule.{PluginRule};
 ghost use Rattle.chain_model.specs.Reports.{end_line, rules_of};
-ghost use Rattle.chain_live.specs.LiveReports.{lines_below};
+ghost use Rattle.packet_forms.specs.declared.forms.Form.{Form};
+ghost use Rattle.search_source.specs.declared.gap.Gap.{Gap};
 ghost use Rattle.chain_run.specs.Met.{AllMetTo};
 ghost use Rattle.plugin_trait.specs.Marks.{AllowsMark};
 ghost use Rattle.ts_outside.specs.Desk.{DeskView};
 ghost use Rattle.tsp_top.specs.ByPlugin.{by_plugin};
 ghost use Rattle.tsp_top.specs.Faults.{faults_from};
-ghost use Rattle.tsp_top.specs.LeftOut.{KnowsAll, input_faulty, kept_out};
-ghost use Rattle.tsp_top.specs.LiveEnds.{plugin_stands};
+ghost use Rattle.tsp_top.specs.InputRounds.{ExtendsTold, KnowsEnd, rest_faulty, rest_printed};
+ghost use Rattle.tsp_top.specs.LeftOut.{LeftOut, input_faulty, is_below};
+ghost use Rattle.tsp_top.specs.LiveEnds.{PrintedTo, plugin_stands};
 ghost use Rattle.chain_args.specs.ValidPlan.{IsValidGeneral};
 ghost use Rattle.tsp_top.specs.PlannedChain.{named_rules, stuffing_of};
-ghost use Rattle.tsp_top.specs.Printed.{input_printed, reported_as, summaries_printed};
-ghost use Rattle.tsp_top.specs.Printing.{HasPrinted};
+ghost use Rattle.tsp_top.specs.Printed.{reported_as, summaries_printed, told_lines};
 ghost use Rattle.tsp_top.specs.Ran.{chain_over};
 ghost use Rattle.tsp_top.specs.Reported.{ReachesCut, ReportsAsked};
 
 use crate::call_notes::PluginNotes;
-use crate::input_report::push_input;
+use crate::input_report::push_input_rest;
 use crate::live_run::Printed;
 use crate::report::{Judged, last_text, one_failed};
 use crate::reporting::{either, push_lines};
@@ -31,7 +33,7 @@ use chain_args::{GeneralConf, Plan};
 use chain_core::Closed;
 use plugin_settings::PluginItem;
 use plugin_trait::{Heard, Line, Plugin};
-use search_source::KeptGaps;
+use search_source::{GapCounts, KeptGaps};
 use std::alloc::{AllocError, Global};
 use ts_outside::Desk;
 
@@ -102,7 +104,7 @@ fn push_summaries<P: Plugin>(
     Ok(either(first_faulty, later_faulty))
 }
 
-/// What is reported after the lines of a run: what the input reports, the summaries of the plugins, then the end line, unless the report is to be bare; and
+/// What is reported after the lines of a run: what is left of the input's report, the summaries of the plugins, then the end line, unless the report is to be bare; and
 /// whether a plugin has a fault before the cut.
 fn last_part<P: Plugin>(
     alloc: Global,
@@ -110,6 +112,7 @@ fn last_part<P: Plugin>(
     kept: &Option<KeptGaps>,
     plugins: &mut [Heard<P>],
     items: &[PluginItem],
+    counts: GapCounts,
     closed: Closed,
 ) -> Result<Judged, AllocError>
     requires valid { IsValidGeneral general.now }
@@ -119,16 +122,16 @@ fn last_part<P: Plugin>(
         → map (by_plugin P.rule) plugins.old ≡ rules_of (named_rules items.now tables)
         → AllMetTo (plugin_stands P.stands_for) rules input closed.cut 0 plugins.old
         → IfOk result (λ judged.
-        (judged.faulty ≡ (input_faulty (stuffing_of general.now) (kept_out kept.now) closed.cut closed.cause
+        (judged.faulty ≡ (rest_faulty counts kept.now closed.cause
         || faults_from rules input closed.cut 0 (named_rules items.now tables)))
-        × (string_bytes judged.text ≡ input_printed general.now.bare (stuffing_of general.now) (kept_out kept.now) closed.cut closed.cause
+        × (string_bytes judged.text ≡ rest_printed general.now.bare counts kept.now closed.cause
         ++ (summaries_printed general.now.bare rules input closed.cut 0 (named_rules items.now tables)
         ++ (if general.now.bare then [] else end_line closed.cause closed.cut)))
-        × KnowsAll (stuffing_of general.now) kept.now closed.cut closed.cause) }
+        × KnowsEnd kept.now closed.cause) }
 {
     let mut text = String::new(alloc);
     let bare = general.bare;
-    let input_faulty = push_input(alloc, &mut text, general, kept, closed)?;
+    let input_faulty = push_input_rest(alloc, &mut text, bare, kept, counts, closed)?;
     let plugin_faulty = push_summaries(alloc, &mut text, bare, plugins, items, 0, closed.cut)?;
     let faulty = either(input_faulty, plugin_faulty);
     let last = last_text(alloc, bare, closed)?;
@@ -153,22 +156,33 @@ pub(crate) fn report_live<P: Plugin, D: Desk>(
     requires valid { IsValidGeneral plan.now.general }
     requires numbers { length plugins.old < 2 ^ 62 }
     requires reach { ReachesCut (plugin_stands P.stands_for) plugins.old closed.cut 0 }
-    ensures { (tables : List (List (List ℕ))) (input : StageList) (first : DeskView)
-        → map (by_plugin P.rule) plugins.old ≡ rules_of (named_rules plan.now.plugins tables)
+    ensures { (tables : List (List (List ℕ))) (input : StageList) (first : DeskView) (form : Form) (gaps : List Gap) (at : ℕ)
+        (left_out : Option LeftOut)
+        → let general = plan.now.general in
+        let chain = chain_over plan.now tables input in
+        map (by_plugin P.rule) plugins.old ≡ rules_of (named_rules plan.now.plugins tables)
         → AllMetTo (plugin_stands P.stands_for) (map (by_plugin P.rule) plugins.old) input closed.cut 0 plugins.old
-        → HasPrinted plan.now.general.bare (lines_below (chain_over plan.now tables input) closed.cut)
-        first (D.seen desk.old) printed.failed printed.whole
-        → ReportsAsked plan.now.general (reported_as plan.now.general (kept_out kept.now) (chain_over plan.now tables input) closed.cut closed.cause)
-        (lines_below (chain_over plan.now tables input) closed.cut)
-        (input_faulty (stuffing_of plan.now.general) (kept_out kept.now) closed.cut closed.cause
+        → AllByRecursion (λ (gap : Gap). is_below (stuffing_of general) at gap.before ≡ true) gaps
+        → ExtendsTold (stuffing_of general) form gaps at kept.now closed.cause left_out
+        → PrintedTo general chain closed.cut form gaps at first (D.seen desk.old) printed.failed printed.whole printed.counts
+        → ReportsAsked general (reported_as general left_out chain closed.cut closed.cause) (told_lines general left_out chain closed.cut)
+        (input_faulty (stuffing_of general) left_out closed.cut closed.cause
         || faults_from (rules_of (named_rules plan.now.plugins tables)) input closed.cut 0 (named_rules plan.now.plugins tables))
-        (KnowsAll (stuffing_of plan.now.general) kept.now closed.cut closed.cause) closed.cause closing_failed first (D.seen desk.new) result }
+        (KnowsEnd kept.now closed.cause) closed.cause closing_failed first (D.seen desk.new) result }
 {
     if !printed.whole {
         return Status::NoMemory;
     }
     let items = plan.plugins.as_slice();
-    match last_part(alloc, &plan.general, kept, plugins, items, closed) {
+    match last_part(
+        alloc,
+        &plan.general,
+        kept,
+        plugins,
+        items,
+        printed.counts,
+        closed,
+    ) {
         Ok(Judged { text, faulty }) => {
             let mut failed = printed.failed;
             say_on(desk, &mut failed, text.as_str());

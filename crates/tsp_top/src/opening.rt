@@ -48,12 +48,14 @@ fn open_placed<D: Desk>(
     Ok(InputPart::Stream(FileSource::Placed(FormSource::new(source, form))))
 }
 
-/// Opens a file whose packets are found again. The room for its bytes is taken first.
+/// Opens a file whose packets are found again. The room for its bytes is taken first. A gap before one of the last `keep` packets
+/// is not let go.
 fn open_found<D: Desk>(
     alloc: Global,
     desk: &mut D,
     name: &str,
     form: Form,
+    keep: u64,
 ) -> Result<InputPart<PacketSource<D::In>>, OpenFault>
     ensures asked { MatchOpen result
         (λ _. D.seen desk.new ≡ asked_well (D.seen desk.old) Input name.now)
@@ -66,14 +68,17 @@ fn open_found<D: Desk>(
         return Err(OpenFault::NoMemory);
     };
     let source = desk.open_in(Some(name))?;
-    Ok(InputPart::Stream(FileSource::Found(NotedSource::new(alloc, source, form, room))))
+    let noted = NotedSource::keeping(alloc, source, form, room, keep);
+    Ok(InputPart::Stream(FileSource::Found(noted)))
 }
 
-/// Opens the input, unless it is null packets or a generated stream.
+/// Opens the input, unless it is null packets or a generated stream. Where packets are found again, a gap before one of the last
+/// `keep` packets is not let go.
 pub(crate) fn open_input<D: Desk>(
     alloc: Global,
     desk: &mut D,
     conf: &InputConf,
+    keep: u64,
 ) -> Result<InputPart<PacketSource<D::In>>, OpenFault>
     ensures asked { MatchOpen result
         (λ _. D.seen desk.new ≡ asked_input (D.seen desk.old) conf.now)
@@ -86,7 +91,7 @@ pub(crate) fn open_input<D: Desk>(
     match conf {
         InputConf::File { name, form, resync } => {
             if *resync {
-                open_found(alloc, desk, name.as_str(), *form)
+                open_found(alloc, desk, name.as_str(), *form, keep)
             } else {
                 open_placed(desk, name.as_str(), *form)
             }

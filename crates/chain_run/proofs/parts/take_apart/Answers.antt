@@ -38,6 +38,7 @@ returns g c =
           (one-is c.take_plugins.new.parts.items c.remove-2.result (omega (arith, c.take_plugins.ensures.one)) c.remove-2.ensures.value);
       in_stream = c.into_input-input.ensures.stream;
       in_leaves = c.into_input-input.ensures.leaves;
+      in_read = c.into_input-input.ensures.read;
       some_list = c.into_input-input.ensures.some_list;
       taken = subst (λ (l : List (Heard g.row.P.Denot)). AreTakenFrom see c.remove.new.self.items l)
           (sym (c.take_plugins.ensures.taken.1 ∙ ap (λ (l : List (Heard g.row.P.Denot)). l ++ c.take_plugins.ensures.taken.0) c.requires.none)) c.take_plugins.ensures.taken.2;

@@ -1,11 +1,17 @@
-use Rattle.std.proofs.Common.{◌≡◌, ◌-◌, ◌++◌, ℕ, suc, Result, Ok, Err, OnErr, refl, ap, ◌∙◌, subst, arith}
+use Rattle.std.proofs.Common.{◌≡◌, ◌-◌, ◌++◌, ℕ, suc, List, Result, Ok, Err, OnErr, refl, ap, sym, ◌∙◌, subst, arith}
+use Rattle.std.specs.List.{AllByRecursion}
 use Rattle.std.proofs.lemmas.Result.{IfOk-weaker}
 use Rattle.chain_core.specs.declared.progress.Progress.{Progress}
 use Rattle.chain_core.specs.CoreNumbers.{progress_of_core}
 use Rattle.stage_run.specs.Seeing.{seeing}
 use Rattle.chain_run.specs.Runs.{told_to}
+use Rattle.chain_core.specs.ChainRun.{state_after}
+use Rattle.chain_rounds.specs.declared.told_line.ToldLine.{ToldLine}
+use Rattle.chain_tells.specs.Rounds.{IsWithin}
+use Rattle.chain_tells.specs.Taking.{met_in}
 use Rattle.chain_tells.specs.Telling.{Tells}
 use Rattle.chain_tells.specs.Waiting.{told_rows}
+use Rattle.chain_tells.proofs.RoundLemmas.{told-within}
 use Rattle.chain_tells.proofs.TellLemmas.{tells-more, tells-kept}
 use Rattle.chain_tells.proofs.taking.take_told.Goals as goal
 
@@ -36,3 +42,19 @@ returns-clause-keeps g c = λ begun plugins name_of taken before told tells.
     let new = c.take_after.new.chain in
     on-err-then c.take_after.result _ _ (c.take_after.ensures.keeps (told_to begun taken) tells.goes)
     (λ still. tells-kept see begun plugins name_of c.machine_laws.ensures taken before told chain.core chain.parts.items chain.cells.items tells new.core new.parts.items new.cells.items still)
+
+pub returns-clause-within : goal.returns-clause-within
+returns-clause-within g c = λ begun plugins name_of before told tells.
+    let chain = c.args.chain.now in
+    let lines = told_rows 0 c.take_after.new.rows.items in
+    let stages = tells.goes.fits.stages_are in
+    let place : c.len-output.result - 1 ≡ suc begun.plan.plugins = omega (arith, stages) in
+    let written = (progress_of_core chain.core (suc begun.plan.plugins)).given in
+    let is : c.progress-written.result.given ≡ written =
+    ap (λ (p : Progress). p.given) (c.progress-written.ensures ∙ ap (λ (n : ℕ). progress_of_core chain.core n) place) in
+    IfOk-weaker c.take_after.result _ _
+    (λ done takes.
+    let within = told-within before c.progress-written.result.given (met_in (state_after begun.plan tells.goes.runs.visits)) 0 begun.rules in
+    subst (λ (n : ℕ). AllByRecursion (IsWithin before n) lines) is
+    (subst (λ (l : List ToldLine). AllByRecursion (IsWithin before c.progress-written.result.given) l) (sym (takes.lines_are before (λ i a b. refl))) within))
+    (c.take_after.ensures.takes (told_to begun (λ _. before)) tells.goes)

@@ -5,6 +5,9 @@ use Rattle.tsp_top.proofs.call.run_plan_live.Goals as goal
 pub run_printing-run-requires-clause-every : goal.run_printing-run-requires-clause-every
 run_printing-run-requires-clause-every g c κs within = c.in-Ok.ensures.2.ready.every
 
+pub run_printing-run-requires-clause-stuffing : goal.run_printing-run-requires-clause-stuffing
+run_printing-run-requires-clause-stuffing g c κs within = c.in-Ok.ensures.2.ready.stuffing_is
+
 pub run_printing-run-requires-clause-unused : goal.run_printing-run-requires-clause-unused
 run_printing-run-requires-clause-unused g c κs within = c.in-Ok.ensures.2.unused
 
@@ -18,16 +21,16 @@ pub run_printing-run-requires-clause-fresh : goal.run_printing-run-requires-clau
 run_printing-run-requires-clause-fresh g c κs within = c.in-Ok.ensures.2.ready.fresh
 
 pub finish_live-requires-clause-reach : goal.finish_live-requires-clause-reach
-finish_live-requires-clause-reach g c κs within = live-reach _ _ _ _ _ _ _ _ _ _ _ _ _ _ _ _ _ c.in-Ok.ensures c.run_printing-run.ensures
+finish_live-requires-clause-reach g c κs within = live-reach _ _ _ _ _ _ _ _ _ _ _ _ _ _ _ _ _ _ c.in-Ok.ensures c.run_printing-run.ensures
 
 pub finish_live-requires-clause-valid : goal.finish_live-requires-clause-valid
 finish_live-requires-clause-valid g c κs within = c.requires.valid.general
 
 pub finish_live-requires-clause-few : goal.finish_live-requires-clause-few
-finish_live-requires-clause-few g c κs within = live-few _ _ _ _ _ _ _ _ _ _ _ _ _ _ _ _ _ c.in-Ok.ensures c.run_printing-run.ensures
+finish_live-requires-clause-few g c κs within = live-few _ _ _ _ _ _ _ _ _ _ _ _ _ _ _ _ _ _ c.in-Ok.ensures c.run_printing-run.ensures
 
 pub returns-in-Ok : goal.returns-in-Ok
 returns-in-Ok g c = live-called _ _ c.args.plan.now c.in-Ok.field-0.core (g.D.Desk.seen c.args.desk.now) (g.D.Desk.seen c.begin_plan.new.desk) (g.D.Desk.seen c.run_printing-run.new.desk)
     c.in-Ok.field-0.stages.input c.run_printing-run.result.end.input c.in-Ok.field-0.stages.stuffing c.in-Ok.field-0.stages.plugins.items c.run_printing-run.result.end.plugins.items
-    c.in-Ok.field-0.stages.output c.run_printing-run.result.end.output c.run_printing-run.result.printed.failed c.run_printing-run.result.printed.whole c.run_printing-run.result.end.closed
+    c.in-Ok.field-0.stages.output c.run_printing-run.result.end.output c.run_printing-run.result.printed.failed c.run_printing-run.result.printed.whole c.run_printing-run.result.printed.counts c.run_printing-run.result.end.closed
     c.in-Ok.ensures c.run_printing-run.ensures _ _ c.finish_live.ensures

@@ -1,4 +1,4 @@
-use Rattle.std.proofs.Common.{is_err, ap, map, List, ◌∙◌, ◌++◌, ◌||◌, sym, refl, inl, inr}
+use Rattle.std.proofs.Common.{◌≡◌, true, false, is_err, ap, map, List, [], ◌∙◌, ◌++◌, ◌||◌, sym, refl, inl, inr}
 use Rattle.plugin_settings.specs.declared.plugin_item.PluginItem.{PluginItem}
 use Rattle.chain_model.specs.Reports.{rules_of}
 use Rattle.ts_outside.specs.Desk.{DeskView}
@@ -9,7 +9,9 @@ use Rattle.tsp_top.specs.Faults.{faults_from}
 use Rattle.tsp_top.specs.Printed.{input_printed, reports_asked}
 use Rattle.tsp_top.specs.Openings.{output_closed_as}
 use Rattle.tsp_top.specs.Ran.{chain_over}
+use Rattle.packet_forms.specs.declared.forms.Form.TheVariants.{Ts}
 use Rattle.tsp_top.proofs.EndLemmas.{asked-plain}
+use Rattle.tsp_top.proofs.LeftLemmas.{plain-out}
 use Rattle.tsp_top.proofs.RunLemmas.{run-met, if-ok, on-err, on-true-is_err, reports-run-same}
 use Rattle.tsp_top.proofs.finishing.finish.Goals as goal
 
@@ -32,7 +34,13 @@ returns-in-Ok g c = λ tables stuffing numbers from plugins to rules ends.
         record {
           made = c.args.end.plugins.items;
           run = run;
-          reported = asked-plain c.args.plan.now.general (kept_out c.close_input-kept.result) (chain_over c.args.plan.now tables run.list) c.in-Ok.closed.cut c.in-Ok.closed.cause _ _ _ (is_err c.close_output-closing.result) _ _ _ c.requires.plain
+          form = Ts;
+          gaps = [];
+          at = 0;
+          told = λ live. absurd (let e : true ≡ false = sym live ∙ c.requires.plain in cc);
+          reported = plain-out c.args.plan.now.general (stuffing_of c.args.plan.now.general) Ts [] 0 c.close_input-kept.result c.in-Ok.closed (chain_over c.args.plan.now tables run.list)
+              _ (is_err c.close_output-closing.result) _ _ _ c.requires.plain
+              (asked-plain c.args.plan.now.general (kept_out c.close_input-kept.result) (chain_over c.args.plan.now tables run.list) c.in-Ok.closed.cut c.in-Ok.closed.cause _ _ _ (is_err c.close_output-closing.result) _ _ _ c.requires.plain
               (reports-run-same c.args.plan.now.general _ _ _ _ _ c.in-Ok.closed.cause c.is_err.result (is_err c.close_output-closing.result) (g.D.Desk.seen c.close_output-closing.new.desk) _ _ _
               (ap (λ (items : List PluginItem). input_printed c.args.plan.now.general.bare (stuffing_of c.args.plan.now.general) (kept_out c.close_input-kept.result) c.in-Ok.closed.cut c.in-Ok.closed.cause
               ++ reports_asked c.args.plan.now.general (named_rules items tables) run.list c.in-Ok.closed.cut c.in-Ok.closed.cause) c.as_slice.ensures)
@@ -43,7 +51,7 @@ returns-in-Ok g c = λ tables stuffing numbers from plugins to rules ends.
               ∙ ap (λ (d : DeskView). output_closed_as g.D.Out.Sink.seen d c.args.end.output (is_err c.close_output-closing.result)) c.close_input-kept.ensures.closed)
               (c.report_run-status.ensures tables run.list
               (ap (λ (l : List _). map (by_plugin g.P.Plugin.rule) l) c.deref_mut.ensures.value ∙ rules ∙ ap (λ (items : List PluginItem). rules_of (named_rules items tables)) (sym c.as_slice.ensures))
-              (rw c.deref_mut.ensures.value (run-met _ _ from c.args.end.input stuffing plugins c.args.end.plugins.items to c.args.end.output numbers c.in-Ok.closed run))));
+              (rw c.deref_mut.ensures.value (run-met _ _ from c.args.end.input stuffing plugins c.args.end.plugins.items to c.args.end.output numbers c.in-Ok.closed run)))));
         },
       );
     }

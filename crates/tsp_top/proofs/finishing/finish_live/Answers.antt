@@ -1,15 +1,15 @@
 use Rattle.std.proofs.Common.{is_err, ap, map, List, ◌∙◌, ◌||◌, refl, inl, inr}
 use Rattle.chain_model.specs.Reports.{rules_of}
-use Rattle.chain_live.specs.LiveReports.{lines_below}
 use Rattle.ts_outside.specs.Desk.{DeskView}
 use Rattle.tsp_top.specs.ByPlugin.{by_plugin}
 use Rattle.tsp_top.specs.Faults.{faults_from}
 use Rattle.tsp_top.specs.Openings.{output_closed_as}
 use Rattle.tsp_top.specs.PlannedChain.{named_rules, stuffing_of}
-use Rattle.tsp_top.specs.LeftOut.{input_faulty, kept_out}
-use Rattle.tsp_top.specs.Printed.{reported_as}
+use Rattle.tsp_top.specs.LeftOut.{input_faulty}
+use Rattle.tsp_top.specs.Printed.{reported_as, told_lines}
 use Rattle.tsp_top.specs.Ran.{chain_over}
 use Rattle.tsp_top.proofs.EndLemmas.{closed-live, closed-silent}
+use Rattle.tsp_top.proofs.LeftLemmas.{live-out}
 use Rattle.tsp_top.proofs.RunLemmas.{run-met, if-ok, on-err, on-true-is_err}
 use Rattle.tsp_top.proofs.finishing.finish_live.Goals as goal
 
@@ -24,9 +24,6 @@ returns-in-Ok g c = λ tables stuffing numbers from plugins to opened own rules 
     let general = c.args.plan.now.general in
     let ran = if-ok end.closed c.in-Ok.closed _ c.in-Ok.is (ends.run tables own) in
     let chain = chain_over c.args.plan.now tables ran.run.list in
-    let out = kept_out c.close_input-kept.result in
-    let faulty = input_faulty (stuffing_of general) out c.in-Ok.closed.cut c.in-Ok.closed.cause
-    || faults_from (rules_of (named_rules c.args.plan.now.plugins tables)) ran.run.list c.in-Ok.closed.cut 0 (named_rules c.args.plan.now.plugins tables) in
     record {
       made_from = end.input;
       made_to = end.output;
@@ -39,18 +36,27 @@ returns-in-Ok g c = λ tables stuffing numbers from plugins to opened own rules 
         record {
           made = end.plugins.items;
           run = ran.run;
-          reported = closed-live _ _ end.input end.output closing c.is_err.result general
-              (reported_as general out chain c.in-Ok.closed.cut c.in-Ok.closed.cause) (lines_below chain c.in-Ok.closed.cut) faulty _ c.in-Ok.closed.cause
+          form = ran.form;
+          gaps = ran.gaps;
+          at = ran.at;
+          told = λ live. ran.told;
+          reported = live-out general (stuffing_of general) ran.form ran.gaps ran.at c.close_input-kept.result c.in-Ok.closed chain _ closing _ _ _ c.requires.live
+              (λ left_out extends.
+              closed-live _ _ end.input end.output closing c.is_err.result general
+              (reported_as general left_out chain c.in-Ok.closed.cut c.in-Ok.closed.cause) (told_lines general left_out chain c.in-Ok.closed.cut)
+              (input_faulty (stuffing_of general) left_out c.in-Ok.closed.cut c.in-Ok.closed.cause
+              || faults_from (rules_of (named_rules c.args.plan.now.plugins tables)) ran.run.list c.in-Ok.closed.cut 0 (named_rules c.args.plan.now.plugins tables)) _ c.in-Ok.closed.cause
+              chain c.in-Ok.closed.cut ran.form ran.gaps ran.at
               opened (g.D.Desk.seen c.args.desk.now) (g.D.Desk.seen c.close_output-closing.new.desk) (g.D.Desk.seen c.report_live-status.new.desk)
-              c.args.run.printed.failed c.args.run.printed.whole c.report_live-status.result
+              c.args.run.printed.failed c.args.run.printed.whole c.args.run.printed.counts c.report_live-status.result
               c.is_err.ensures.value
               (c.close_output-closing.ensures.closed
               ∙ ap (λ (d : DeskView). output_closed_as g.D.Out.Sink.seen d end.output closing) c.close_input-kept.ensures.closed)
               ran.printed
-              (λ first printed. c.report_live-status.ensures tables ran.run.list first
+              (λ first printed. c.report_live-status.ensures tables ran.run.list first ran.form ran.gaps ran.at left_out
               (ap (λ (l : List _). map (by_plugin g.P.Plugin.rule) l) c.deref_mut.ensures.value ∙ rules)
               (rw c.deref_mut.ensures.value (run-met _ _ from end.input stuffing plugins end.plugins.items to end.output numbers c.in-Ok.closed ran.run))
-              printed);
+              ran.told.below extends printed));
         },
       );
     }

@@ -1,4 +1,4 @@
-use Rattle.std.proofs.Common.{◌≡◌, ◌+◌, ◌-◌, length, take, drop, sym, ap, ◌∙◌, arith, length-drop}
+use Rattle.std.proofs.Common.{◌≡◌, ◌+◌, length, take, drop, sym, ap, ◌∙◌, arith, length-drop}
 use Rattle.cell_land.specs.Cells.{CellPiece, cell_piece}
 use Rattle.chain_run.specs.Blocks.{CellSlots}
 use Rattle.chain_run.proofs.cell_block.CellBlock.lift.Goals as goal
