@@ -1,5 +1,5 @@
 -- The gaps of an input that are told round by round: positions of packets, and gaps by them.
-use Rattle.std.proofs.Common.{◌≡◌, ◌⊎◌, inl, inr, ℕ, zero, suc, ◌+◌, ◌-◌, ◌*◌, ◌/◌, ◌%◌, ◌<◌, ◌≤◌, ◌^◌, List, [], ◌∷◌, ◌++◌, Bool, true, false, not, ◌&&◌, ◌==◌, cond, if◌then◌else◌, nat_lt, nat_le, filter, length, take, drop, replicate, min, refl, ap, sym, ◌∙◌, subst, arith, length-append, length-take, length-drop, append-nil}
+use Rattle.std.proofs.Common.{◌≡◌, ◌⊎◌, inl, inr, ℕ, zero, suc, ◌+◌, ◌-◌, ◌*◌, ◌/◌, ◌%◌, ◌<◌, ◌≤◌, ◌^◌, List, [], ◌∷◌, ◌++◌, Bool, true, false, not, ◌&&◌, ◌==◌, cond, if◌then◌else◌, nat_le, filter, length, take, drop, refl, ap, sym, ◌∙◌, arith, length-append, length-take, length-drop, append-nil}
 use Rattle.std.specs.List.{AllByRecursion}
 use Rattle.std.proofs.lemmas.Bool.{cond-true, cond-false, le-leb, lt-leb, le-ltb, lt-ltb, cases_lt, ltb-true, ltb-false, leb-true, leb-false, eqb-true}
 use Rattle.std.proofs.lemmas.List.{length-replicate}
@@ -14,7 +14,7 @@ use Rattle.chain_model.specs.Apply.{StageList}
 use Rattle.chain_model.specs.InputRead.{list_at_fault}
 use Rattle.chain_model.specs.InputList.{is_packet_in_front, packets_of, packets_within}
 use Rattle.chain_model.specs.declared.input_end.InputEnd.{InputEnd}
-use Rattle.chain_model.specs.declared.input_end.InputEnd.TheVariants.{ReadFault, TooLong}
+use Rattle.chain_model.specs.declared.input_end.InputEnd.TheVariants.{ReadFault}
 use Rattle.chain_model.specs.Stuffed.{Stuffing, null_cells, nulls_after, stuffed_after, within_limit}
 use Rattle.search_source.specs.declared.gap.Gap.{Gap}
 use Rattle.search_source.specs.Since.{NotedOf, Rising, is_since}

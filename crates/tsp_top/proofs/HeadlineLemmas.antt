@@ -8,7 +8,6 @@ use Rattle.chain_model.specs.declared.cause.Cause.TheVariants.{Input, Joint, Unt
 use Rattle.std.specs.List.{AllByRecursion}
 use Rattle.chain_core.proofs.Facts.{all_by_recursion}
 use Rattle.chain_model.specs.Cut.{is_fault}
-use Rattle.chain_model.specs.InputList.{input_of_bytes}
 use Rattle.chain_model.specs.PureRun.{Chain, chain_cause, chain_cut, pure_run, written_to}
 use Rattle.chain_model.specs.Stuffed.{Stuffing, stuffed}
 use Rattle.plugin_settings.specs.declared.plugin_item.PluginItem.{PluginItem}
@@ -28,7 +27,7 @@ use Rattle.ts_outside.specs.Faultless.{NothingFails}
 use Rattle.tsp_top.specs.CallOutcome.{CallOutcome, no_input, no_output, ran, unreported, out_of_memory, done_status, in_place_of_done, is_plain_end, run_status, status_in_time, status_of, FaultRose, StatusTellsCause}
 use Rattle.tsp_top.specs.CanEnd.{CanEnd, CanEndBy}
 use Rattle.tsp_top.specs.MemoryFirst.{IsPreallocated, ArePreallocated, NoStageWants, TakesLater}
-use Rattle.tsp_top.specs.PlannedChain.{GivenInput, given_of, chain_of, chain_on, bytes_of_packets, input_of, GivesFile, GivesInput, named_rules, output_name, stuffing_of, users_from, users_of}
+use Rattle.tsp_top.specs.PlannedChain.{GivenInput, given_of, chain_of, chain_on, input_of, GivesFile, GivesInput, named_rules, output_name, stuffing_of, users_from, users_of}
 use Rattle.tsp_top.specs.PlannedTables.{AreTables, tables_asked}
 use Rattle.tsp_top.specs.Faults.{run_faults}
 use Rattle.tsp_top.specs.LeftOut.{LeftOut}

@@ -1,10 +1,9 @@
 -- What is left out of the input of a run, whether it is reported at the end or while the run goes.
-use Rattle.std.proofs.Common.{◌≡◌, inl, inr, ℕ, List, Bool, true, false, ◌||◌, ◌++◌, Option, refl, ap, sym, ◌∙◌, subst}
+use Rattle.std.proofs.Common.{◌≡◌, inl, inr, ℕ, List, Bool, true, false, ◌||◌, ◌++◌, Option, ap, sym, ◌∙◌, subst}
 use Rattle.ts_outside.specs.Desk.{DeskView}
 use Rattle.ts_outside.specs.Saying.{Says}
 use Rattle.chain_args.specs.declared.general_conf.GeneralConf.{GeneralConf}
 use Rattle.chain_core.specs.declared.closed.Closed.{Closed}
-use Rattle.chain_live.specs.LiveReports.{LiveLine}
 use Rattle.chain_model.specs.PureRun.{Chain}
 use Rattle.chain_model.specs.Stuffed.{Stuffing}
 use Rattle.packet_forms.specs.declared.forms.Form.{Form}
@@ -14,7 +13,7 @@ use Rattle.tsp_top.specs.CallOutcome.{run_status}
 use Rattle.tsp_top.specs.InputRounds.{ExtendsTold, IsLeftOut, Knows, KnowsEnd}
 use Rattle.tsp_top.specs.LeftOut.{KnowsAll, LeftOut, input_faulty, kept_out}
 use Rattle.tsp_top.specs.PlannedChain.{stuffing_of}
-use Rattle.tsp_top.specs.Printed.{input_printed, reported_as, reports_asked, told_lines}
+use Rattle.tsp_top.specs.Printed.{reported_as, reports_asked, told_lines}
 use Rattle.tsp_top.specs.Reported.{ReportsAsked, StandsUnreported}
 use Rattle.tsp_top.specs.declared.status.Status.{Status}
 use Rattle.tsp_top.proofs.EndLemmas.{plain-report}

@@ -1,5 +1,5 @@
 -- What was printed of a run while it went, with the gaps of its input or without.
-use Rattle.std.proofs.Common.{◌≡◌, ◌≢◌, inl, inr, ℕ, ◌≤◌, ◌<◌, ◌^◌, List, [], ◌∷◌, ◌++◌, length, map, Bool, true, false, not, ◌&&◌, Option, Some, Result, IfOk, OnErr, refl, ap, sym, ◌∙◌, subst, append-nil, arith}
+use Rattle.std.proofs.Common.{◌≡◌, ◌≢◌, ℕ, ◌≤◌, ◌<◌, ◌^◌, List, [], ◌∷◌, length, map, Bool, true, false, not, ◌&&◌, Some, Result, IfOk, OnErr, refl, ap, sym, ◌∙◌, subst, append-nil, arith}
 use Rattle.std.specs.Prelude.{fold}
 use Rattle.std.specs.List.{AllByRecursion}
 use Rattle.std.specs.declared.alloc.AllocError.{AllocError}
@@ -14,7 +14,6 @@ use Rattle.chain_args.specs.declared.plan_type.Plan.{Plan}
 use Rattle.chain_core.specs.declared.closed.Closed.{Closed}
 use Rattle.chain_core.specs.declared.core_plan.CorePlan.{CorePlan}
 use Rattle.chain_model.specs.Reports.{NamedRule, rules_of}
-use Rattle.chain_model.specs.Prefix.{IsPrefix}
 use Rattle.chain_model.specs.PureRun.{Chain}
 use Rattle.chain_model.specs.Stuffed as model
 use Rattle.chain_live.specs.LiveReports.{LiveLine, lines_below}
@@ -27,11 +26,10 @@ use Rattle.chain_run.specs.Runs.{RunStart, began_with}
 use Rattle.plugin_trait.specs.declared.heard.Heard.{Heard}
 use Rattle.chain_tells.specs.InputLines.{lines_with}
 use Rattle.chain_tells.specs.PrintingRounds.{PrintsRound}
-use Rattle.chain_tells.specs.Rounds.{Round, HeardRounds, IsWithin, LiveRounds, RoundStands, lines_of_rounds}
+use Rattle.chain_tells.specs.Rounds.{Round, HeardRounds, LiveRounds, RoundStands, lines_of_rounds}
 use Rattle.chain_tells.specs.declared.printing.Printing.{Printing}
 use Rattle.packet_forms.specs.declared.forms.Form.{Form}
 use Rattle.packet_search.specs.Rule.{deciding_bytes}
-use Rattle.plugin_settings.specs.declared.plugin_item.PluginItem.{PluginItem}
 use Rattle.search_source.specs.Coming.{found_in}
 use Rattle.search_source.specs.Gaps.{no_gaps, with_gap}
 use Rattle.search_source.specs.Since.{NotedOf}
@@ -47,7 +45,7 @@ use Rattle.stage_run.specs.InputStands as stage
 use Rattle.stage_run.specs.declared.input_part.InputPart.{InputPart}
 use Rattle.stage_run.specs.declared.input_part.InputPart.TheVariants.{Stream}
 use Rattle.tsp_top.specs.InputRounds.{IsPlaced, ToldGaps, WritesRound, counts_after, noted_gaps}
-use Rattle.tsp_top.specs.LeftOut.{counts_below, is_below}
+use Rattle.tsp_top.specs.LeftOut.{counts_below}
 use Rattle.tsp_top.specs.LiveEnds.{EndsLive, PrintedTo, RanLive}
 use Rattle.tsp_top.specs.PlannedChain.{named_rules, stuffing_of}
 use Rattle.tsp_top.specs.Printed.{gap_line, live_text}
@@ -56,7 +54,7 @@ use Rattle.tsp_top.specs.Ran.{chain_over}
 use Rattle.tsp_top.specs.declared.input_texts.InputTexts.{InputTexts}
 use Rattle.tsp_top.proofs.LiveLemmas.{names-are, on-err-of, ran-live}
 use Rattle.tsp_top.proofs.RoundLemmas as printing
-use Rattle.tsp_top.proofs.RoundRows.{cut-lines, lines-before}
+use Rattle.tsp_top.proofs.RoundRows.{cut-lines}
 use Rattle.tsp_top.proofs.GapRounds.{filter-whole}
 use Rattle.tsp_top.proofs.ToldLemmas.{all-counted, form_of, told-gaps}
 use Rattle.tsp_top.proofs.ToldLemmas as telling

@@ -1,6 +1,6 @@
 -- What is reported of a run whose lines were printed while it went: the rest of the report.
-use Rattle.std.proofs.Common.{◌≡◌, inl, inr, ℕ, ◌≤◌, List, [], ◌∷◌, ◌++◌, map, Bool, true, false, ◌||◌, if◌then◌else◌, Option, None, Some, refl, ap, sym, ◌∙◌, subst, append_assoc, append-nil}
-use Rattle.std.specs.Prelude.{codes, fold}
+use Rattle.std.proofs.Common.{◌≡◌, ℕ, ◌≤◌, List, [], ◌++◌, map, Bool, true, false, ◌||◌, if◌then◌else◌, Option, None, Some, refl, ap, sym, ◌∙◌, subst, append_assoc}
+use Rattle.std.specs.Prelude.{codes}
 use Rattle.std.specs.List.{AllByRecursion}
 use Rattle.std.proofs.lemmas.Grind.{flat_map-append, fold-append}
 use Rattle.ts_outside.specs.Desk.{DeskView}
@@ -12,7 +12,7 @@ use Rattle.chain_model.specs.PureRun.{Chain, chain_rules}
 use Rattle.chain_model.specs.Reports.{end_line}
 use Rattle.chain_model.specs.declared.cause.Cause.{Cause}
 use Rattle.chain_model.specs.Stuffed.{Stuffing}
-use Rattle.chain_live.specs.LiveReports.{LiveLine, lines_below}
+use Rattle.chain_live.specs.LiveReports.{LiveLine}
 use Rattle.chain_tells.specs.InputLines.{lines_with}
 use Rattle.search_source.specs.Gaps.{no_gaps, with_end}
 use Rattle.search_source.specs.declared.file_source.KeptGaps.{KeptGaps}

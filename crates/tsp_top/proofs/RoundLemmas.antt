@@ -1,11 +1,9 @@
 -- What was printed of the rounds of a run, with the gaps of its input.
-use Rattle.std.proofs.Common.{◌≡◌, ◌≢◌, ◌⊎◌, inl, inr, ℕ, ◌<◌, ◌≤◌, ◌^◌, List, [], ◌∷◌, ◌++◌, length, map, filter, Bool, true, false, not, ◌&&◌, Option, None, Some, refl, ap, sym, ◌∙◌, subst, arith, append_assoc, append-nil}
-use Rattle.std.specs.Prelude.{fold, IfSome}
-use Rattle.std.specs.List.{AllByRecursion, flat_map}
-use Rattle.std.proofs.lemmas.Grind.{flat_map-append, fold-append}
+use Rattle.std.proofs.Common.{◌≡◌, inl, inr, ℕ, ◌≤◌, List, [], ◌∷◌, ◌++◌, map, Bool, true, false, Option, None, Some, refl, ap, sym, ◌∙◌, subst, arith, append_assoc, append-nil}
+use Rattle.std.specs.List.{AllByRecursion}
+use Rattle.std.proofs.lemmas.Grind.{flat_map-append}
 use Rattle.std.proofs.lemmas.List.{map-append}
 use Rattle.ts_outside.specs.Desk.{DeskView}
-use Rattle.ts_outside.specs.Source.{SourceView, Origin, unread, read_failed}
 use Rattle.ts_outside.specs.declared.sources.Source.{Ghosts}
 use Rattle.ts_outside.specs.Saying.{Says}
 use Rattle.ts_outside.proofs.Views.{reports-nil}
@@ -13,13 +11,11 @@ use Rattle.chain_live.specs.LiveReports.{LiveLine}
 use Rattle.chain_rounds.specs.Merged.{merged}
 use Rattle.chain_rounds.specs.Round.{place}
 use Rattle.chain_rounds.specs.Told.{shown}
-use Rattle.chain_rounds.specs.declared.told_line.ToldLine.{ToldLine}
 use Rattle.chain_tells.specs.InputLines.{AreBefore, AreFrom}
 use Rattle.chain_tells.specs.PrintingRounds.{PrintsOne, PrintsRound}
 use Rattle.chain_tells.specs.Rounds.{Round, HeardRounds, IsWithin, lines_of_rounds}
 use Rattle.chain_tells.specs.declared.printing.Printing.{Printing}
 use Rattle.chain_tells.proofs.InputLemmas.{in-parts}
-use Rattle.plugin_settings.specs.declared.plugin_item.PluginItem.{PluginItem}
 use Rattle.search_source.specs.declared.file_source.FileSource.{FileSource}
 use Rattle.search_source.specs.declared.file_source.FileSource.TheVariants.{Placed, Found}
 use Rattle.search_source.specs.declared.gap_counts.GapCounts.{GapCounts}

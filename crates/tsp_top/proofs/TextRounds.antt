@@ -1,5 +1,5 @@
 -- The text of a round, line by line.
-use Rattle.std.proofs.Common.{◌≡◌, ◌+◌, ◌<◌, ◌≤◌, ℕ, length, take, drop, subst, List, [], ◌∷◌, ◌++◌, Bool, true, false, map, filter, cond, nat_lt, if◌then◌else◌, refl, ap, sym, ◌∙◌, append_assoc, append-nil, Option, None, Some}
+use Rattle.std.proofs.Common.{◌≡◌, ◌+◌, ◌<◌, ◌≤◌, ℕ, length, take, drop, subst, List, [], ◌∷◌, ◌++◌, Bool, true, false, map, filter, cond, nat_lt, if◌then◌else◌, refl, ap, sym, ◌∙◌, append_assoc, append-nil, None, Some}
 use Rattle.std.specs.Prelude.{fold, get_or, slice_get}
 use Rattle.std.specs.Option.{option_map}
 use Rattle.std.proofs.lemmas.Grind.{fold-append}
@@ -273,4 +273,3 @@ pub round-said : (bare b : Bool) (items its : List PluginItem) (first text now :
     → text ++ round_text bare items [] rest ≡ first ++ round_text bare items rows lines → now ≡ text ++ told_text b its rest → now ≡ first ++ round_text bare items rows lines
 round-said bare b items its first text now rows lines rest same_bare same_items before written =
     written ∙ ap (λ (x : Bool). text ++ told_text x its rest) same_bare ∙ ap (λ (i : List PluginItem). text ++ told_text bare i rest) same_items ∙ before
-

@@ -2,21 +2,17 @@
 use Rattle.std.proofs.Common.{◌≡◌, ◌≢◌, ◌⊎◌, inl, inr, ℕ, ◌<◌, ◌≤◌, ◌^◌, List, [], ◌∷◌, ◌++◌, length, map, filter, Bool, true, false, not, ◌&&◌, cond, Option, None, Some, refl, ap, sym, ◌∙◌, subst, arith, length-append}
 use Rattle.std.specs.Prelude.{fold, IfSome}
 use Rattle.std.specs.List.{AllByRecursion}
-use Rattle.std.proofs.lemmas.Bool.{le-ltb, lt-ltb, ltb-true, ltb-false}
+use Rattle.std.proofs.lemmas.Bool.{le-ltb, lt-ltb, ltb-true}
 use Rattle.std.proofs.lemmas.Grind.{fold-append}
 use Rattle.std.proofs.lemmas.List.{map-append}
-use Rattle.ts_outside.specs.Desk.{DeskView}
 use Rattle.ts_outside.specs.Told.{before}
 use Rattle.ts_outside.specs.Source.{SourceView, Origin, unread, read_failed}
 use Rattle.ts_outside.specs.declared.sources.Source.{Ghosts}
-use Rattle.ts_outside.specs.Saying.{Says}
 use Rattle.packet_forms.proofs.Through.{same-origin}
 use Rattle.packet_forms.specs.declared.forms.Form.{Form}
 use Rattle.packet_forms.specs.declared.forms.Form.TheVariants.{Ts}
 use Rattle.packet_search.specs.Rule.{deciding_bytes}
 use Rattle.chain_model.specs.InputRead.{list_at_fault}
-use Rattle.chain_model.specs.Prefix.{IsPrefix}
-use Rattle.chain_model.specs.PureRun.{Chain}
 use Rattle.chain_model.specs.Stuffed as model
 use Rattle.chain_live.specs.LiveReports.{LiveLine, is_before}
 use Rattle.chain_tells.specs.Rounds.{Round, ReadsUpTo, RoundStands, SourceReaches}
@@ -24,12 +20,11 @@ use Rattle.chain_run.specs.Runs.{RunStart}
 use Rattle.stage_run.specs.Seeing.{Seeing}
 use Rattle.stage_run.specs.PartStands.{source_kind, a_stream, null_packets, generated_packets}
 use Rattle.stage_run.specs.Parts.{IsSourceOf}
-use Rattle.stage_run.specs.InputStands as stage
 use Rattle.stage_run.specs.declared.input_part.InputPart.{InputPart}
 use Rattle.stage_run.specs.declared.input_part.InputPart.TheVariants.{Stream, Nulls, Generated}
 use Rattle.search_source.specs.Coming.{found_in}
 use Rattle.search_source.specs.Gaps.{no_gaps, with_gap}
-use Rattle.search_source.specs.Since.{NotedOf, Rising}
+use Rattle.search_source.specs.Since.{NotedOf}
 use Rattle.search_source.proofs.Kept.{gaps-rise}
 use Rattle.search_source.proofs.Through.{same-units}
 use Rattle.search_source.specs.declared.file_source.FileSource.{FileSource}
@@ -38,7 +33,7 @@ use Rattle.search_source.specs.declared.gap.Gap.{Gap}
 use Rattle.search_source.specs.declared.gap_counts.GapCounts.{GapCounts}
 use Rattle.search_source.specs.declared.noted_source.NotedSource.{NotedSource}
 use Rattle.tsp_top.specs.InputRounds.{HasAll, IsPlaced, ToldGaps, counts_after, is_between, lines_at, noted_gaps}
-use Rattle.tsp_top.specs.LeftOut.{counts_below, is_below, position_of, with_below}
+use Rattle.tsp_top.specs.LeftOut.{is_below, position_of, with_below}
 use Rattle.tsp_top.specs.Printed.{gap_line}
 use Rattle.tsp_top.proofs.GapRounds.{below, filter-none, in-two, round-gaps}
 

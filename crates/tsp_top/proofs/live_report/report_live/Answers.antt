@@ -1,4 +1,4 @@
-use Rattle.std.proofs.Common.{Bool, true, false, not, ◌≡◌, ◌++◌, ◌||◌, ℕ, List, [], map, inl, inr, refl, ap, sym, subst, ◌∙◌, if◌then◌else◌}
+use Rattle.std.proofs.Common.{Bool, true, false, not, ◌≡◌, ◌++◌, ◌||◌, List, [], map, inl, inr, refl, ap, sym, subst, ◌∙◌, if◌then◌else◌}
 use Rattle.chain_model.specs.PluginRule.{PluginRule}
 use Rattle.chain_model.specs.Reports.{end_line, rules_of}
 use Rattle.chain_run.specs.Met.{AllMetTo}

@@ -1,4 +1,4 @@
-use Rattle.std.proofs.Common.{◌≡◌, ◌++◌, ◌∙◌, Bool, true, false, refl, subst, sym}
+use Rattle.std.proofs.Common.{◌≡◌, ◌++◌, ◌∙◌, Bool, true, false, subst, sym}
 use Rattle.ts_outside.specs.Saying.{Says}
 use Rattle.tsp_top.proofs.Pieces.{one_more, stays_failed}
 use Rattle.tsp_top.proofs.saying.say_on.Goals as goal

@@ -1,7 +1,6 @@
-use Rattle.std.proofs.Common.{◌∙◌, ap}
+use Rattle.std.proofs.Common.{ap}
 use Rattle.std.specs.String.{string_bytes}
 use Rattle.chain_tells.specs.Waiting.{waiting}
-use Rattle.search_source.specs.declared.gap.Gap.{Gap}
 use Rattle.stage_run.specs.InputStands as stage
 use Rattle.tsp_top.specs.InputRounds.{gap_rows, noted_gaps}
 use Rattle.tsp_top.proofs.TextRounds.{round-said}

@@ -1,9 +1,9 @@
-use Rattle.std.proofs.Common.{◌≡◌, ◌++◌, ◌∙◌, List, ℕ, ap, refl, sym}
+use Rattle.std.proofs.Common.{◌++◌, ◌∙◌, List, ℕ, ap, refl, sym}
 use Rattle.std.specs.Prelude.{codes}
 use Rattle.std.specs.String.{string_bytes}
 use Rattle.chain_tells.specs.Waiting.{waiting}
 use Rattle.stage_run.specs.InputStands as stage
-use Rattle.tsp_top.specs.Printed.{gap_line, live_line, printed_line}
+use Rattle.tsp_top.specs.Printed.{gap_line, printed_line}
 use Rattle.tsp_top.proofs.TextRounds.{gap-passed, gap-said, none-more, one-counted}
 use Rattle.tsp_top.proofs.input_texts.InputTexts.push_gap.Goals as goal
 
