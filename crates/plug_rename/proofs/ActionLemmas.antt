@@ -4,6 +4,7 @@ use Rattle.std.specs.Prelude.{if◌then◌else◌, is_some}
 use Rattle.std.proofs.lemmas.Bool.{eqb-true}
 use Rattle.std.proofs.lemmas.Bool.Decides.{nat_tests}
 use Rattle.plug_psi.specs.InForce.{pat_of, pid_for}
+use Rattle.plug_rename.specs.Present.{service_after}
 use Rattle.plug_rename.specs.RenameActions.{action_after, is_at}
 use Rattle.plug_rename.specs.declared.rename_conf.RenameConf.{RenameConf}
 use Rattle.plug_rename.specs.declared.action.Action.{Action}
@@ -98,7 +99,7 @@ pub told-by :
     (conf : RenameConf) (packets : List (List ℕ)) (pid : ℕ) (action : Action) → action ≡ action_after conf packets pid →
     Told (pid == 17) (is_some conf.id) (pid == 0) (pid == 16) (pid == 18) action
 told-by conf packets pid action e =
-    chosen (pid == 17) (is_some conf.id) (pid == 0) (pid == 16) (pid == 18) (is_at (pid_for (pat_of packets) conf.service) pid) action (apart-by pid) e
+    chosen (pid == 17) (is_some conf.id) (pid == 0) (pid == 16) (pid == 18) (is_at (pid_for (pat_of packets) (service_after conf packets)) pid) action (apart-by pid) e
 
 both_true : (a b : Bool) → (a && b) ≡ true → (a ≡ true) × (b ≡ true)
 both_true true b e = (refl, e)

@@ -1,6 +1,7 @@
 -- Items under another number.
 use Rattle.std.proofs.Common.{◌≡◌, ℕ, ◌<◌, ◌==◌, ◌||◌, Bool, true, false, List, [], ◌∷◌, ◌++◌, map, Option, None, Some, refl, sym, ◌∙◌, ap, arith}
 use Rattle.std.specs.List.{list_any}
+use Rattle.std.specs.Option.{ForSome}
 use Rattle.std.specs.Prelude.{if◌then◌else◌}
 use Rattle.std.proofs.lemmas.Bool.Decides.{nat_tests}
 use Rattle.std.proofs.lemmas.List.{map-append}
@@ -27,17 +28,17 @@ item-as service (Some id) own values descriptors = by (own == service)
     by false = refl
 
 -- the network entry is that of no service
-network-item : (service : ℕ) (id : Option ℕ) (pid : ℕ) → 0 < service → item_as service id (entry_item 0 pid) ≡ entry_item 0 pid
+network-item : (service : ℕ) (id : Option ℕ) (pid : ℕ) → ForSome id (λ id. (0 < service) × (0 < id)) → item_as service id (entry_item 0 pid) ≡ entry_item 0 pid
 network-item service None pid named = refl
-network-item service (Some id) pid named = ap (λ b. if b then entry_item id pid else entry_item 0 pid) (let none : (0 == service) ≡ false = grind (arith, nat_tests, named) in none)
+network-item service (Some id) pid named = ap (λ b. if b then entry_item id pid else entry_item 0 pid) (let none : (0 == service) ≡ false = grind (arith, nat_tests, (named id refl).0) in none)
 
-network-items : (service : ℕ) (id : Option ℕ) (network : Option ℕ) → 0 < service → items_as service id (network_items network) ≡ network_items network
+network-items : (service : ℕ) (id : Option ℕ) (network : Option ℕ) → ForSome id (λ id. (0 < service) × (0 < id)) → items_as service id (network_items network) ≡ network_items network
 network-items service id None named = refl
 network-items service id (Some pid) named = ap (λ item. item ∷ []) (network-item service id pid named)
 
 -- so it stays where the entries of a PAT have other numbers
 pub behind-network :
-    (service : ℕ) (id : Option ℕ) (network : Option ℕ) (items : List ItemHolding) → 0 < service →
+    (service : ℕ) (id : Option ℕ) (network : Option ℕ) (items : List ItemHolding) → ForSome id (λ id. (0 < service) × (0 < id)) →
     network_items network ++ items_as service id items ≡ items_as service id (network_items network ++ items)
 behind-network service id network items named =
     ap (λ front. front ++ items_as service id items) (sym (network-items service id network named)) ∙ sym (map-append (item_as service id) (network_items network) items)

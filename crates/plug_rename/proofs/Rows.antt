@@ -4,9 +4,9 @@ use Rattle.std.specs.Prelude.{Option, is_some, option_map}
 use Rattle.ts_table_rows.specs.TableValues.{TableHolding}
 use Rattle.service_items.specs.ServiceItems.{items_from}
 use Rattle.plug_psi.proofs.RowTables.{item_of, table_of}
-use Rattle.plug_rename.specs.Renaming.{items_as, lists_as, number_after, pmt_as}
+use Rattle.named_services.specs.declared.service_word.ServiceWord.TheVariants.{Number}
+use Rattle.plug_rename.specs.Renaming.{id_of, items_as, lists_as, number_after, pmt_as}
 use Rattle.plug_rename.specs.RenameActions.{action_of, collides, is_at, numbered_action}
-use Rattle.plug_rename.specs.RenameSettings.{texts_for}
 use Rattle.plug_rename.specs.declared.rename_conf.RenameConf.{RenameConf}
 use Rattle.plug_rename.specs.declared.action.Action.TheVariants.{EditPat, EditSdt, EditNit, EditEit, EditPmt, Pass}
 
@@ -33,6 +33,20 @@ collides-row = refl
 collides-lacking-row : map (λ pat. collides 7 (Some 2) pat) (Some pat_row ∷ None ∷ []) ≡ true ∷ false ∷ []
 collides-lacking-row = refl
 
+-- settings of service 1
+abbrev conf_row : Option ℕ → RenameConf
+conf_row id = record { service = Number 1; id = id; name = None; provider = None }
+
+-- while no service has the name, each number of the PAT is that of another one, and none gets another number
+collides-unnamed-row : map (λ id. collides 0 id (Some pat_row)) (Some 2 ∷ Some 3 ∷ None ∷ []) ≡ true ∷ false ∷ false ∷ []
+collides-unnamed-row = refl
+
+unnamed-row : id_of 0 (Some 513) ≡ None
+unnamed-row = refl
+
+unnamed-passes-row : map (action_of (conf_row (Some 513)) 0 (Some pat_row)) (0 ∷ 16 ∷ 17 ∷ 18 ∷ 100 ∷ []) ≡ EditPat ∷ EditNit ∷ EditSdt ∷ EditEit ∷ Pass ∷ []
+unnamed-passes-row = refl
+
 -- the PIDs of other tables come before that of its PMTs
 actions-row : map (numbered_action true) (0 ∷ 16 ∷ 18 ∷ 100 ∷ []) ≡ EditPat ∷ EditNit ∷ EditEit ∷ EditPmt ∷ []
 actions-row = refl
@@ -41,17 +55,10 @@ passing-row : map (numbered_action false) (0 ∷ 20 ∷ 100 ∷ []) ≡ EditPat 
 passing-row = refl
 
 -- without another number PID 17 alone is edited, with one the PID of the first entry too, where it is not that of null packets
-abbrev conf_row : Option ℕ → RenameConf
-conf_row id = record {
-  service = 1;
-  id = id;
-  texts = texts_for 1 None None;
-}
-
-named-alone-row : map (action_of (conf_row None) (Some pat_row)) (0 ∷ 16 ∷ 17 ∷ 18 ∷ 100 ∷ []) ≡ Pass ∷ Pass ∷ EditSdt ∷ Pass ∷ Pass ∷ []
+named-alone-row : map (action_of (conf_row None) 1 (Some pat_row)) (0 ∷ 16 ∷ 17 ∷ 18 ∷ 100 ∷ []) ≡ Pass ∷ Pass ∷ EditSdt ∷ Pass ∷ Pass ∷ []
 named-alone-row = refl
 
-first-entry-row : map (action_of (conf_row (Some 513)) (Some pat_row)) (0 ∷ 16 ∷ 17 ∷ 18 ∷ 100 ∷ 101 ∷ 102 ∷ []) ≡ EditPat ∷ EditNit ∷ EditSdt ∷ EditEit ∷ EditPmt ∷ Pass ∷ Pass ∷ []
+first-entry-row : map (action_of (conf_row (Some 513)) 1 (Some pat_row)) (0 ∷ 16 ∷ 17 ∷ 18 ∷ 100 ∷ 101 ∷ 102 ∷ []) ≡ EditPat ∷ EditNit ∷ EditSdt ∷ EditEit ∷ EditPmt ∷ Pass ∷ Pass ∷ []
 first-entry-row = refl
 
 null-pid-row : map (is_at (Some 8191)) (8191 ∷ 100 ∷ []) ≡ false ∷ false ∷ []

@@ -1,5 +1,5 @@
 -- What the steps stand for, one cell more.
-use Rattle.std.proofs.Common.{◌≡◌, ℕ, ◌≤◌, Bool, true, false, List, [], ◌∷◌, ◌++◌, length, refl, sym, ap, ◌∙◌, append-nil, arith, length-append, subst, true≢false}
+use Rattle.std.proofs.Common.{◌≡◌, ℕ, ◌≤◌, ◌||◌, ap₂, Bool, true, false, List, [], ◌∷◌, ◌++◌, length, refl, sym, ap, ◌∙◌, append-nil, arith, length-append, subst, true≢false}
 use Rattle.std.proofs.lemmas.Grind.{flat_map-append}
 use Rattle.ts_packet.specs.declared.cell.Cell.{Cell}
 use Rattle.ts_packet.specs.Cells.{Dropped, Live, live_packets, packet_in}
@@ -8,7 +8,11 @@ use Rattle.plugin_trait.specs.Finding.{IsFirstFind, first_of}
 use Rattle.plugin_trait.specs.Unmarked.{unmarked}
 use Rattle.plug_psi.specs.InForce.{current_pat, pat_of}
 use Rattle.plug_psi.proofs.FoundLemmas.{found-none}
-use Rattle.std.specs.Prelude.{None, if◌then◌else◌}
+use Rattle.std.specs.Prelude.{None, if◌then◌else◌, unwrap_or}
+use Rattle.plug_psi.specs.SameForce.{SameInForce}
+use Rattle.service_items.specs.StreamTables.{stream_of}
+use Rattle.followed_services.specs.ServiceNumbers.{number_after}
+use Rattle.plug_rename.specs.Present.{present_after, present_by, service_after}
 use Rattle.chain_model.specs.Apply.{became, ends_before, goes_on, outcome_of_live, refused}
 use Rattle.chain_model.specs.PluginRule.{passes, refuses}
 use Rattle.chain_model.specs.declared.reason.Reason.TheVariants.{Pid}
@@ -31,7 +35,22 @@ pub renames-latched : (old new : RenameSteps) (failed over : Bool) (met : List (
     → Renames old.conf new met → Renames new.conf (record new { failed = failed; refused = over }) met
 renames-latched old new failed over met e h =
     let own = subst (λ conf. Renames conf new met) (sym e) h in
-    record { forced = own.forced; placed = own.placed; edited = own.edited }
+    record { followed = own.followed; edited = own.edited }
+
+-- neither of two holds
+pub neither : (a b : Bool) → (a || b) ≡ false → (a ≡ false) × (b ≡ false)
+neither false false e = (refl, refl)
+neither false true e = cc
+neither true b e = cc
+
+-- where the word means the same, and the same tables are in force, the same is in force
+pub same-service : (conf : RenameConf) (met : List (List ℕ)) (p : List ℕ) → number_after conf.service (met ++ p ∷ []) ≡ number_after conf.service met
+    → service_after conf (met ++ p ∷ []) ≡ service_after conf met
+same-service conf met p same = ap (λ n. unwrap_or n 0) same
+
+pub same-present : (conf : RenameConf) (met : List (List ℕ)) (p : List ℕ) → SameInForce met p → number_after conf.service (met ++ p ∷ []) ≡ number_after conf.service met
+    → present_after conf (met ++ p ∷ []) ≡ present_after conf met
+same-present conf met p force same = ap₂ (present_by conf) (same-service conf met p same) (ap stream_of force.pat)
 
 marked : (mark : ℕ) (history : List Cell) (cell : Cell) → mark ≤ length history → mark ≤ length (history ++ cell ∷ [])
 marked mark history cell h = omega (arith, h, length-append history (cell ∷ []))

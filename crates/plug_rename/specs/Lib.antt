@@ -1,4 +1,5 @@
 -- The definitions of `svrename`: what is made of tables and sections, the rule, and the options.
+pub mod Present
 pub mod Renaming
 pub mod RenameActions
 pub mod RenameRule

@@ -1,4 +1,4 @@
--- What becomes of the packets on each PID, by the PAT in force.
+-- What becomes of the packets on each PID, by the PAT in force and the number of the service.
 -- ISO/IEC 13818-1, 2.4.4.3 and 2.4.4.4, and ETSI EN 300 468, 5.1.3: PAT, NIT, SDT and BAT, and EIT have PIDs of their own, and a
 -- service's PMTs come on that of its entry in the PAT. Which of them are edited is this project's own rule.
 use Rattle.std.specs.Prelude.{ℕ, ◌<◌, ◌==◌, ◌&&◌, Bool, true, false, List, is_some, nat_lt, not, Option, Some, None, if◌then◌else◌}
@@ -6,6 +6,7 @@ use Rattle.std.specs.List.{list_any}
 use Rattle.ts_packet.specs.declared.numbers.TheConstants.{NULL_PID}
 use Rattle.ts_table_rows.specs.TableValues.{TableHolding}
 use Rattle.plug_psi.specs.InForce.{pat_of, pid_for, services_in}
+use Rattle.plug_rename.specs.Present.{service_after}
 use Rattle.plug_rename.specs.declared.action.Action.{Action}
 use Rattle.plug_rename.specs.declared.action.Action.TheVariants.{EditPat, EditSdt, EditNit, EditEit, EditPmt, Pass}
 use Rattle.plug_rename.specs.declared.rename_conf.RenameConf.{RenameConf}
@@ -25,13 +26,13 @@ numbered_action is_of_pmt pid =
 abbrev pub action_by : RenameConf → Option ℕ → ℕ → Action
 action_by conf own pid = if pid == 17 then EditSdt else (if is_some conf.id then numbered_action (is_at own pid) pid else Pass)
 
--- the same by a PAT
-abbrev pub action_of : RenameConf → Option TableHolding → ℕ → Action
-action_of conf pat pid = action_by conf (pid_for pat conf.service) pid
+-- the same by a PAT, where the service has this number
+abbrev pub action_of : RenameConf → ℕ → Option TableHolding → ℕ → Action
+action_of conf service pat pid = action_by conf (pid_for pat service) pid
 
 -- after these packets of any PID
 abbrev pub action_after : RenameConf → List (List ℕ) → ℕ → Action
-action_after conf packets pid = action_of conf (pat_of packets) pid
+action_after conf packets pid = action_of conf (service_after conf packets) (pat_of packets) pid
 
 -- whether packets with this action are edited as those of PMTs
 abbrev pub edits_pmt : Action → Bool
@@ -55,7 +56,7 @@ IsEditable EditEit pid = Unit {0}
 IsEditable EditPmt pid = pid < NULL_PID
 IsEditable Pass pid = Unit {0}
 
--- the new number is that of another service of a PAT
+-- the new number is that of another service of a PAT; where the service has none, 0, each is another one
 abbrev pub collides : ℕ → Option ℕ → Option TableHolding → Bool
 collides service None pat = false
 collides service (Some id) pat = not (id == service) && list_any (λ entry. entry.0 == id) (services_in pat)

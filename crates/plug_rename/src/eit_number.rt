@@ -2,36 +2,47 @@
 
 ghost use Rattle.std.specs.Prelude.{◌≡◌, ◌<◌, ◌≤◌, IfOk, Some};
 ghost use Rattle.ts_section.specs.SectionFields.{head_of};
+ghost use Rattle.section_flow.specs.FlowStands.{outcome};
 ghost use Rattle.plug_rename.specs.Renaming;
 
+use crate::present::Present;
 use section_flow::{SectionChange, SectionEdit};
 use std::alloc::{AllocError, Global};
 use ts_eit::is_of_service;
 use ts_section::{LongHead, Section};
 
-/// Gives the EIT sections of a service another service_id, with a right CRC, and all other sections as they are.
-#[derive(Clone, Copy)]
-pub(crate) struct EitNumber {
-    pub(crate) service: u16,
-    pub(crate) id: Option<u16>,
-}
+// Gives the EIT sections of a service its new number as service_id, with a right CRC, and all other sections as they are.
+impl SectionEdit for Present {
+    ghost use Rattle.plug_rename.specs.Renaming.{eit_by};
 
-impl SectionEdit for EitNumber {
-    ghost use Rattle.plug_rename.specs.Renaming.{eit_change};
-
-    ghost edited = { λ e section. eit_change e.service e.id section };
+    ghost edited = { λ present section. eit_by present section };
 
     fn edit(&self, alloc: Global, section: &Section) -> Result<SectionChange, AllocError> {
-        if !is_of_service(u64::from(self.service), section) {
-            return Ok(SectionChange::Stays);
-        }
-        let Some(head) = section.head() else {
+        let Some(id) = self.new_number() else {
             return Ok(SectionChange::Stays);
         };
-        let id = self.id.unwrap_or(self.service);
-        let edited = section_as(alloc, id, head, section)?;
-        Ok(SectionChange::Becomes(edited))
+        let edited = section_of(alloc, self.service, id, section)?;
+        Ok(edited)
     }
+}
+
+/// What becomes of a section where a service has another number.
+fn section_of(
+    alloc: Global,
+    service: u16,
+    id: u16,
+    section: &Section,
+) -> Result<SectionChange, AllocError>
+    ensures { IfOk result (λ change. outcome section.now change ≡ Renaming.eit_change service (Some id) section.now) }
+{
+    if !is_of_service(u64::from(service), section) {
+        return Ok(SectionChange::Stays);
+    }
+    let Some(head) = section.head() else {
+        return Ok(SectionChange::Stays);
+    };
+    let edited = section_as(alloc, id, head, section)?;
+    Ok(SectionChange::Becomes(edited))
 }
 
 /// A section under another number.

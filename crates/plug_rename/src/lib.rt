@@ -11,13 +11,15 @@ mod nit_items;
 mod pat_number;
 mod place;
 mod pmt_number;
+mod present;
 mod rename;
 mod rename_conf;
 mod rename_editors;
+mod rename_follower;
 mod rename_steps;
 mod rename_words;
 mod sdt_names;
-mod stream_tables;
+mod texts;
 mod turn;
 
 pub use rename::{Rename, new_rename};

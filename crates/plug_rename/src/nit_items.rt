@@ -5,25 +5,24 @@ ghost use Rattle.ts_si.specs.SiTables.{nit_held, stream_item};
 ghost use Rattle.plug_rename.specs.Renaming;
 ghost use Rattle.plug_rename.specs.Renaming.{lists_as};
 
+use crate::present::Present;
 use plug_psi::{Edited, TableEdit, read_current, sections_or_same};
-use service_items::{OfStream, edited_streams};
+use service_items::edited_streams;
 use std::alloc::{AllocError, Global};
 use ts_section::TableRun;
 use ts_si::{Nit, NitStreamList};
+use varied_edits::EditFrom;
 
-/// Gives the items of a service in each current NIT of the actual network that reads another number.
-#[derive(Clone, Copy)]
+/// Gives the items of a service in each current NIT of the actual network that reads its new number.
+#[derive(Drop)]
 pub(crate) struct NitItems {
-    pub(crate) service: u16,
-    pub(crate) id: Option<u16>,
-    /// The transport_stream_id of the PAT in force, if there is one.
-    pub(crate) stream: Option<u16>,
+    pub(crate) present: Present,
 }
 
 impl TableEdit for NitItems {
-    ghost use Rattle.plug_rename.specs.Renaming.{nit_change};
+    ghost use Rattle.plug_rename.specs.Renaming.{nit_by};
 
-    ghost change = { λ s run. nit_change s.service s.id s.stream run };
+    ghost change = { λ s run. nit_by s.present run };
 
     fn edit(&self, alloc: Global, run: &TableRun) -> Result<Edited, AllocError> {
         let Some(nit) = read_current::<Nit>(alloc, run)? else {
@@ -32,32 +31,59 @@ impl TableEdit for NitItems {
         if !nit.actual {
             return Ok(Edited::same());
         }
-        let Some(nit) = nit_as(alloc, *self, nit)? else {
+        let Some(nit) = nit_as(alloc, self.present.items(), nit)? else {
             return Ok(Edited::same());
         };
         sections_or_same(nit.sections(alloc))
     }
 }
 
-impl OfStream for NitItems {
-    ghost at_stream = { λ to s. record s { stream = to } };
+impl EditFrom for NitItems {
+    ghost use Rattle.plug_rename.specs.Renaming.{nit_by};
 
-    fn stream(&self) -> Option<u16> {
-        self.stream
+    type Source = Present;
+
+    ghost made_from = { λ present run. nit_by present run };
+
+    fn is_from(&self, present: &Present) -> bool {
+        self.present.is_same(present)
     }
 
-    fn with_stream(&self, _alloc: Global, stream: Option<u16>) -> Result<NitItems, AllocError> {
-        Ok(NitItems {
+    fn from_source(_alloc: Global, present: &Present) -> Result<NitItems, AllocError> {
+        let present = present.copy()?;
+        Ok(NitItems { present })
+    }
+}
+
+/// The items of a service in one transport stream, and the number that they get, if there is one.
+#[derive(Clone, Copy)]
+pub(crate) struct Items {
+    pub(crate) service: u16,
+    pub(crate) id: Option<u16>,
+    /// The transport_stream_id of the PAT in force, if there is one.
+    pub(crate) stream: Option<u16>,
+}
+
+impl Present {
+    ghost use Rattle.plug_rename.specs.Renaming.{id_of};
+
+    /// The items of the service that is meant.
+    pub(crate) fn items(&self) -> Items
+        ensures service { result.service ≡ self.now.service }
+        ensures id { result.id ≡ id_of self.now.service self.now.id }
+        ensures stream { result.stream ≡ self.now.stream }
+    {
+        Items {
             service: self.service,
-            id: self.id,
-            stream,
-        })
+            id: self.new_number(),
+            stream: self.stream,
+        }
     }
 }
 
 /// A NIT in which the service's items have another number; `None` if there is no such item, or no other number.
-fn nit_as(alloc: Global, edit: NitItems, nit: Nit) -> Result<Option<Nit>, AllocError>
-    ensures { IfOk result (λ edited. option_map nit_held edited ≡ lists_as edit.service edit.id edit.stream (nit_held nit)) }
+fn nit_as(alloc: Global, items: Items, nit: Nit) -> Result<Option<Nit>, AllocError>
+    ensures { IfOk result (λ edited. option_map nit_held edited ≡ lists_as items.service items.id items.stream (nit_held nit)) }
 {
     let Nit {
         actual,
@@ -67,7 +93,7 @@ fn nit_as(alloc: Global, edit: NitItems, nit: Nit) -> Result<Option<Nit>, AllocE
         descriptors,
         streams,
     } = nit;
-    let Some(streams) = streams_as(alloc, edit, streams)? else {
+    let Some(streams) = streams_as(alloc, items, streams)? else {
         return Ok(None);
     };
     Ok(Some(Nit {
@@ -84,15 +110,15 @@ fn nit_as(alloc: Global, edit: NitItems, nit: Nit) -> Result<Option<Nit>, AllocE
 /// number.
 pub(crate) fn streams_as(
     alloc: Global,
-    edit: NitItems,
+    items: Items,
     streams: NitStreamList,
 ) -> Result<Option<NitStreamList>, AllocError>
     ensures { IfOk result (λ left. option_map (map stream_item) left
-        ≡ Renaming.streams_as edit.service edit.id edit.stream (map stream_item streams)) }
+        ≡ Renaming.streams_as items.service items.id items.stream (map stream_item streams)) }
 {
-    let Some(id) = edit.id else {
+    let Some(id) = items.id else {
         return Ok(None);
     };
-    let left = edited_streams(alloc, &[edit.service], Some(id), edit.stream, streams)?;
+    let left = edited_streams(alloc, &[items.service], Some(id), items.stream, streams)?;
     Ok(left)
 }

@@ -6,50 +6,54 @@ ghost use Rattle.ts_psi.specs.PatTables.{pat_held, service_item};
 ghost use Rattle.plug_rename.specs.Renaming.{item_as, items_as, with_number};
 
 use crate::items::number_after;
-use plug_psi::{Edited, SeededEdit, TableEdit, read_current, sections_or_same};
+use crate::present::Present;
+use plug_psi::{Edited, TableEdit, read_current, sections_or_same};
 use std::alloc::{AllocError, Global};
 use ts_psi::{Pat, PatService, PatServiceList};
 use ts_section::TableRun;
+use varied_edits::EditFrom;
 
-/// Gives the entries of a service another number in each current PAT that reads.
-#[derive(Clone, Copy)]
+/// Gives the entries of a service its new number in each current PAT that reads.
+#[derive(Drop)]
 pub(crate) struct PatNumber {
-    pub(crate) service: u16,
-    pub(crate) id: Option<u16>,
-    pub(crate) ghost named: { 0 < service },
-    pub(crate) ghost valid: { ForSome id (λ id. 0 < id) },
+    pub(crate) present: Present,
 }
 
 impl TableEdit for PatNumber {
-    ghost use Rattle.plug_rename.specs.Renaming.{pat_change};
+    ghost use Rattle.plug_rename.specs.Renaming.{pat_by};
 
-    ghost change = { λ s run. pat_change s.service s.id run };
+    ghost change = { λ s run. pat_by s.present run };
 
     fn edit(&self, alloc: Global, run: &TableRun) -> Result<Edited, AllocError> {
         let Some(pat) = read_current::<Pat>(alloc, run)? else {
             return Ok(Edited::same());
         };
-        let edited = pat_as(alloc, *self, pat)?;
+        let edited = pat_as(alloc, self.present.service, self.present.new_number(), pat)?;
         sections_or_same(edited.sections(alloc))
     }
 }
 
-impl SeededEdit for PatNumber {
-    ghost use Rattle.plug_rename.specs.Renaming.{pat_change};
+impl EditFrom for PatNumber {
+    ghost use Rattle.plug_rename.specs.Renaming.{pat_by};
 
-    type Seed = PatNumber;
+    type Source = Present;
 
-    ghost change_on = { λ seed pid run. pat_change seed.service seed.id run };
+    ghost made_from = { λ present run. pat_by present run };
 
-    fn on(_alloc: Global, seed: &PatNumber, _pid: u16) -> Result<PatNumber, AllocError> {
-        Ok(*seed)
+    fn is_from(&self, present: &Present) -> bool {
+        self.present.is_same(present)
+    }
+
+    fn from_source(_alloc: Global, present: &Present) -> Result<PatNumber, AllocError> {
+        let present = present.copy()?;
+        Ok(PatNumber { present })
     }
 }
 
-/// A PAT in which the service has another number.
-fn pat_as(alloc: Global, edit: PatNumber, pat: Pat) -> Result<Pat, AllocError>
-    ensures { IfOk result (λ edited. pat_held edited
-        ≡ with_number edit.service edit.id (pat_held pat)) }
+/// A PAT in which the service has another number, if there is one.
+fn pat_as(alloc: Global, service: u16, id: Option<u16>, pat: Pat) -> Result<Pat, AllocError>
+    requires { ForSome id (λ id. (0 < service) × (0 < id)) }
+    ensures { IfOk result (λ edited. pat_held edited ≡ with_number service id (pat_held pat)) }
 {
     let Pat {
         version,
@@ -58,7 +62,7 @@ fn pat_as(alloc: Global, edit: PatNumber, pat: Pat) -> Result<Pat, AllocError>
         network_pid,
         services,
     } = pat;
-    let services = entries_as(alloc, edit, services.into_vec())?;
+    let services = entries_as(alloc, service, id, services.into_vec())?;
     Ok(Pat {
         version,
         current,
@@ -71,24 +75,27 @@ fn pat_as(alloc: Global, edit: PatNumber, pat: Pat) -> Result<Pat, AllocError>
 /// Entries in which the service has another number.
 fn entries_as(
     alloc: Global,
-    edit: PatNumber,
+    service: u16,
+    id: Option<u16>,
     entries: Vec<PatService>,
 ) -> Result<Vec<PatService>, AllocError>
-    ensures { IfOk result (λ all. map service_item all.items ≡ items_as edit.service edit.id (map service_item entries.items)) }
+    requires { ForSome id (λ id. (0 < service) × (0 < id)) }
+    ensures { IfOk result (λ all. map service_item all.items ≡ items_as service id (map service_item entries.items)) }
 {
     let mut all = Vec::new(alloc);
     for entry in entries {
-        all.push(entry_as(edit, entry))?;
+        all.push(entry_as(service, id, entry))?;
     }
     Ok(all)
 }
 
 /// An entry under another number, if it is one of the service.
-fn entry_as(edit: PatNumber, entry: PatService) -> PatService
-    ensures { service_item result ≡ item_as edit.service edit.id (service_item entry) }
+fn entry_as(service: u16, id: Option<u16>, entry: PatService) -> PatService
+    requires { ForSome id (λ id. (0 < service) × (0 < id)) }
+    ensures { service_item result ≡ item_as service id (service_item entry) }
 {
     PatService {
-        service_id: number_after(edit.service, edit.id, entry.service_id),
+        service_id: number_after(service, id, entry.service_id),
         pid: entry.pid,
     }
 }

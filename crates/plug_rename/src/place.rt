@@ -1,6 +1,6 @@
 //! What the PAT in force says of a service.
 
-ghost use Rattle.std.specs.Prelude.{◌≡◌, ◌==◌, ℕ, List, None, false, map, option_map};
+ghost use Rattle.std.specs.Prelude.{◌≡◌, ◌==◌, ℕ, List, None, Option, map, option_map};
 ghost use Rattle.std.specs.List.{filter_map, list_any};
 ghost use Rattle.std.specs.Option.{option_copied};
 ghost use Rattle.ts_psi.specs.PatTables.{pat_held, service_item};
@@ -8,9 +8,7 @@ ghost use Rattle.plug_psi.specs.ForceStands.{StandsFor as Forced};
 ghost use Rattle.plug_psi.specs.InForce.{pat_of, service_in};
 ghost use Rattle.plug_rename.specs.RenameActions;
 ghost use Rattle.plug_rename.specs.RenameState.{IsPlace};
-ghost use Rattle.plug_rename.specs.declared.rename_conf.RenameConf.{RenameConf};
 
-use crate::rename_conf::RenameConf;
 use plug_psi::{InForce, number_and_pid, pid_of_service};
 use ts_psi::{Pat, PatService};
 
@@ -26,7 +24,7 @@ pub(crate) struct Place {
 impl Place {
     /// While no PAT is in force.
     pub(crate) fn none() -> Place
-        ensures { (conf : RenameConf) → IsPlace conf result None }
+        ensures { (service : ℕ) (id : Option ℕ) → IsPlace service id result None }
     {
         Place {
             own: None,
@@ -34,40 +32,35 @@ impl Place {
         }
     }
 
-    /// By a PAT, if there is one.
-    fn of(conf: &RenameConf, pat: Option<&Pat>) -> Place
-        ensures { IsPlace conf.now result (option_map pat_held (option_copied pat.entry)) }
+    /// By the tables in force, of the service with this number, which may get another one.
+    pub(crate) fn of(service: u16, id: Option<u16>, force: &InForce) -> Place
+        ensures { (fed : List (List ℕ)) → Forced force.now fed → IsPlace service id result (pat_of fed) }
+    {
+        Place::by(service, id, force.pat())
+    }
+
+    // By a PAT, if there is one.
+    fn by(service: u16, id: Option<u16>, pat: Option<&Pat>) -> Place
+        ensures { IsPlace service id result (option_map pat_held (option_copied pat.entry)) }
     {
         Place {
-            own: pid_of_service(pat, conf.service),
-            collides: collides(conf, pat),
+            own: pid_of_service(pat, service),
+            collides: collides(service, id, pat),
         }
     }
 }
 
-/// The place by the tables in force after a packet; if none came with it, it is the place of before.
-#[inline]
-pub(crate) fn place_where(came: bool, place: Place, conf: &RenameConf, force: &InForce) -> Place
-    ensures { (before after : List (List ℕ)) → Forced force.now after → (came ≡ false → pat_of after ≡ pat_of before)
-        → IsPlace conf.now place (pat_of before) → IsPlace conf.now result (pat_of after) }
-{
-    if !came {
-        return place;
-    }
-    Place::of(conf, force.pat())
-}
-
 /// Whether the new number is that of another service of a PAT.
-fn collides(conf: &RenameConf, pat: Option<&Pat>) -> bool
-    ensures { result ≡ RenameActions.collides conf.now.service conf.now.id (option_map pat_held (option_copied pat.entry)) }
+fn collides(service: u16, id: Option<u16>, pat: Option<&Pat>) -> bool
+    ensures { result ≡ RenameActions.collides service id (option_map pat_held (option_copied pat.entry)) }
 {
-    let Some(id) = conf.id else {
+    let Some(id) = id else {
         return false;
     };
     let Some(pat) = pat else {
         return false;
     };
-    id != conf.service && names_service(pat.services.as_slice(), id)
+    id != service && names_service(pat.services.as_slice(), id)
 }
 
 /// Whether an entry of a PAT has a number.

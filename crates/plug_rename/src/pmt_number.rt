@@ -4,54 +4,61 @@ ghost use Rattle.std.specs.Prelude.{◌≡◌, option_map};
 ghost use Rattle.ts_psi.specs.PsiTables.{pmt_held};
 ghost use Rattle.plug_rename.specs.Renaming;
 
-use plug_psi::{Edited, SeededEdit, TableEdit, read_current, sections_or_same};
+use crate::present::Present;
+use plug_psi::{Edited, TableEdit, read_current, sections_or_same};
 use std::alloc::{AllocError, Global};
 use ts_psi::Pmt;
 use ts_section::TableRun;
+use varied_edits::EditFrom;
 
-/// Gives each current PMT of a service that reads another program_number.
-#[derive(Clone, Copy)]
+/// Gives each current PMT of a service that reads its new number as program_number.
+#[derive(Drop)]
 pub(crate) struct PmtNumber {
-    pub(crate) service: u16,
-    pub(crate) id: Option<u16>,
+    pub(crate) present: Present,
 }
 
 impl TableEdit for PmtNumber {
-    ghost use Rattle.plug_rename.specs.Renaming.{pmt_change};
+    ghost use Rattle.plug_rename.specs.Renaming.{pmt_by};
 
-    ghost change = { λ s run. pmt_change s.service s.id run };
+    ghost change = { λ s run. pmt_by s.present run };
 
     fn edit(&self, alloc: Global, run: &TableRun) -> Result<Edited, AllocError> {
         let Some(pmt) = read_current::<Pmt>(alloc, run)? else {
             return Ok(Edited::same());
         };
-        let Some(edited) = pmt_as(*self, pmt) else {
+        let Some(edited) = pmt_as(self.present.service, self.present.new_number(), pmt) else {
             return Ok(Edited::same());
         };
         sections_or_same(edited.sections(alloc))
     }
 }
 
-impl SeededEdit for PmtNumber {
-    ghost use Rattle.plug_rename.specs.Renaming.{pmt_change};
+impl EditFrom for PmtNumber {
+    ghost use Rattle.plug_rename.specs.Renaming.{pmt_by};
 
-    type Seed = PmtNumber;
+    type Source = Present;
 
-    ghost change_on = { λ seed pid run. pmt_change seed.service seed.id run };
+    ghost made_from = { λ present run. pmt_by present run };
 
-    fn on(_alloc: Global, seed: &PmtNumber, _pid: u16) -> Result<PmtNumber, AllocError> {
-        Ok(*seed)
+    fn is_from(&self, present: &Present) -> bool {
+        self.present.is_same(present)
+    }
+
+    fn from_source(_alloc: Global, present: &Present) -> Result<PmtNumber, AllocError> {
+        let present = present.copy()?;
+        Ok(PmtNumber { present })
     }
 }
 
-/// A PMT under another number, if it is that of the service.
-fn pmt_as(edit: PmtNumber, pmt: Pmt) -> Option<Pmt>
-    ensures { option_map pmt_held result ≡ Renaming.pmt_as edit.service edit.id (pmt_held pmt) }
+/// A PMT under another number, if there is one and it is that of the service.
+fn pmt_as(service: u16, id: Option<u16>, pmt: Pmt) -> Option<Pmt>
+    ensures { option_map pmt_held result ≡ Renaming.pmt_as service id (pmt_held pmt) }
 {
-    if pmt.service_id != edit.service {
+    let id = id?;
+    if pmt.service_id != service {
         return None;
     }
     let mut pmt = pmt;
-    pmt.service_id = edit.id.unwrap_or(edit.service);
+    pmt.service_id = id;
     Some(pmt)
 }

@@ -2,30 +2,34 @@
 
 ghost use Rattle.std.specs.Prelude.{◌≡◌, IfOk};
 
-use plug_edit::EditSdtConf;
-use std::alloc::{AllocError, Global};
+use crate::texts::copy_of_text;
+use followed_services::ServiceWord;
+use std::alloc::AllocError;
+use ts_outside::NameText;
 
 /// Settings of `svrename`.
 #[derive(Drop)]
 pub struct RenameConf {
-    /// The number of the service, 1 to 65535.
-    pub service: u16,
+    /// The number of the service, or its name.
+    pub service: ServiceWord,
     /// Its new number, 1 to 65535.
     pub id: Option<u16>,
-    /// The settings of an `sdt` that gives the service its new texts.
-    pub texts: EditSdtConf,
+    /// Its new name.
+    pub name: Option<NameText>,
+    /// The new name of its provider.
+    pub provider: Option<NameText>,
 }
 
 impl RenameConf {
     /// A copy of the settings.
-    pub(crate) fn copy(&self, alloc: Global) -> Result<RenameConf, AllocError>
+    pub(crate) fn copy(&self) -> Result<RenameConf, AllocError>
         ensures { IfOk result (λ conf. conf ≡ self.now) }
     {
-        let texts = self.texts.copy(alloc)?;
         Ok(RenameConf {
-            service: self.service,
+            service: self.service.copy()?,
             id: self.id,
-            texts,
+            name: copy_of_text(&self.name)?,
+            provider: copy_of_text(&self.provider)?,
         })
     }
 }

@@ -2,16 +2,16 @@
 
 ghost use Rattle.std.specs.Prelude.{◌≡◌, ℕ, ◌++◌, ◌∷◌, [], List, true, false, IfOk, OnOk, OnErr};
 ghost use Rattle.plug_rename.specs.RenameRule.{rename_rule};
-ghost use Rattle.plug_rename.specs.RenameSettings.{IsValidRename};
 ghost use Rattle.plug_rename.specs.RenameState.{MeetsHistory, rule_of};
 ghost use Rattle.plug_rename.specs.RenameTurns.{Notes, Tells, is_refusal};
 
 use crate::action::action_on;
-use crate::place::{Place, place_where};
 use crate::rename_conf::RenameConf;
 use crate::rename_editors::RenameEditors;
+use crate::rename_follower::RenameFollower;
 use crate::turn::{Turn, is_refusal, outcome_by};
-use plug_psi::{Changes, FailureLatch, InForce, Unedited, both, pid_of_service};
+use named_services::Unnamed;
+use plug_psi::{Changes, FailureLatch, Unedited, both, pid_of_service};
 use plugin_trait::{FirstFind, Outcome, Steps};
 use std::alloc::{AllocError, Global};
 use ts_packet::{Labels, Packet};
@@ -22,9 +22,7 @@ use ts_packet::{Labels, Packet};
 #[derive(Drop)]
 pub struct RenameSteps {
     pub(crate) conf: RenameConf,
-    pub(crate) force: InForce,
-    /// What the PAT in force says of the service.
-    pub(crate) place: Place,
+    pub(crate) follower: RenameFollower,
     pub(crate) editors: RenameEditors,
     /// The first position at which the service was there.
     pub(crate) found: FirstFind,
@@ -39,18 +37,16 @@ impl RenameSteps {
 
     /// New steps, which have processed no packet.
     pub(crate) fn new(alloc: Global, conf: &RenameConf) -> Result<RenameSteps, AllocError>
-        requires { IsValidRename conf.now }
         ensures rule { IfOk result (λ steps. rule_of steps ≡ rename_rule conf.now) }
         ensures fresh { IfOk result (λ steps. MeetsHistory steps []) }
     {
-        let own = conf.copy(alloc)?;
-        let force = InForce::new(alloc)?;
-        let editors = RenameEditors::new(alloc, conf);
-        let (force, editors) = both(force, editors)?;
+        let own = conf.copy()?;
+        let follower = RenameFollower::new(alloc, conf)?;
+        let editors = RenameEditors::new(alloc, &follower.present);
+        let (follower, editors) = both(follower, editors)?;
         Ok(RenameSteps {
             conf: own,
-            force,
-            place: Place::none(),
+            follower,
             editors,
             found: FirstFind::none(),
             failed: FailureLatch::unset(),
@@ -61,18 +57,25 @@ impl RenameSteps {
 
     /// Why nothing was edited: no PAT is in force, or it has no such service.
     pub fn unedited(&self) -> Option<Unedited> {
-        let Some(pat) = self.force.pat() else {
+        let Some(pat) = self.follower.force.pat() else {
             return Some(Unedited::NoPat);
         };
-        match pid_of_service(Some(pat), self.conf.service) {
+        let service = self.follower.present.service;
+        match pid_of_service(Some(pat), service) {
             Some(_) => None,
-            None => Some(Unedited::NoService(self.conf.service)),
+            None => Some(Unedited::NoService(service)),
         }
+    }
+
+    /// Why a name means no service by the tables in force; `None` where the service is given by its number, or the name means
+    /// one.
+    pub fn unnamed(&self) -> Result<Option<Unnamed>, AllocError> {
+        self.follower.service.unnamed()
     }
 
     /// Adds the PIDs on which tables changed without a new version.
     pub fn add_changes(&self, changes: &mut Changes) -> Result<(), AllocError> {
-        self.force.add_changes(changes)?;
+        self.follower.force.add_changes(changes)?;
         self.editors.add_changes(changes)
     }
 
@@ -113,15 +116,14 @@ impl RenameSteps {
         ensures failed { self.new.failed ≡ self.old.failed }
         ensures refused { self.new.refused ≡ self.old.refused }
     {
-        let came = self.force.update(at, packet)?;
-        self.place = place_where(came, self.place, &self.conf, &self.force);
-        let place = self.place;
+        self.follower.meet(at, &self.conf, packet)?;
+        let place = self.follower.place;
         if place.collides {
             return Ok(Turn::Collides);
         }
         let action = action_on(&self.conf, place.own, packet.pid());
-        self.editors
-            .edit(self.alloc, at, action, &mut self.force, packet)?;
+        let present = &self.follower.present;
+        self.editors.edit(self.alloc, at, action, present, packet)?;
         self.found.meet(at, place.own.is_some());
         Ok(Turn::Passes)
     }

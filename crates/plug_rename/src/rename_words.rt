@@ -3,28 +3,25 @@
 ghost use Rattle.std.specs.Prelude.{◌≡◌, ◌<◌, IfOk};
 ghost use Rattle.std.specs.Option.{ForSome};
 ghost use Rattle.plugin_options.specs.Refusal.{ReadsParsed};
-ghost use Rattle.plug_rename.specs.RenameSettings;
 ghost use Rattle.plug_rename.specs.RenameSettings.{IsValidRename};
 ghost use Rattle.plug_rename.specs.RenameWords.{is_change_given, rename_options};
 
 use crate::limits::LAST_SERVICE;
 use crate::rename_conf::RenameConf;
-use plug_edit::EditSdtConf;
+use followed_services::service_option;
 use plugin_entry::{PluginHelp, PluginSettings};
 use plugin_options::{
-    Beside, Need, NumberSet, OptionRow, OptionText, OptionWord, ParsedOptions, Refusal, Takes,
-    WordsRule,
+    Beside, Need, OptionRow, OptionText, OptionWord, ParsedOptions, Refusal, Takes, WordsRule,
 };
 use std::alloc::Global;
-use ts_outside::NameText;
 
 // The options of `svrename`.
 static SVRENAME: [OptionRow; 4] = [
     OptionRow {
-        word: OptionWord::Operand("operand", Takes::Number(1, LAST_SERVICE)),
+        word: OptionWord::Operand("operand", Takes::Service),
         text: OptionText {
             value: "S",
-            meaning: "1 to 65535: the service's number in the PAT, which info reports beside its name",
+            meaning: "1 to 65535: the service's number in the PAT; or its name, letter for letter as info reports it beside the number",
             need: Need::Required,
             beside: Beside::Any,
         },
@@ -75,7 +72,7 @@ impl PluginSettings for RenameConf {
     fn help() -> PluginHelp {
         PluginHelp {
             usage: "-P svrename (--id N | --name TEXT | --provider TEXT).. S",
-            rule: "The service has the new number and the new texts wherever a table of this transport stream names it; all else, versions too, stays. PID 0 is refused where another service of the PAT has the new number. Texts are written as sdt writes them, and where they do not fit, they stay.",
+            rule: "The service has the new number and the new texts wherever a table of this transport stream names it; all else, versions too, stays. PID 0 is refused where another service of the PAT has the new number. Texts are written as sdt writes them, and where they do not fit, they stay. A service is given by its number, or by its name as info shows it: the first of that name in the SDT in force, at each packet. While no service has the name, each number of the PAT is another service's.",
         }
     }
 
@@ -102,39 +99,18 @@ fn rename_settings(alloc: Global, found: &ParsedOptions) -> Result<RenameConf, R
     if !is_needed_given(found) {
         return Err(Refusal::Broken(WordsRule::Missing));
     }
-    let Some(service) = found.number("operand", 1, LAST_SERVICE)? else {
+    let Some(service) = service_option(alloc, found, "operand")? else {
         return Err(Refusal::Broken(WordsRule::Missing));
     };
     let id = found.number("id", 1, LAST_SERVICE)?;
     let name = found.optional_text(alloc, "name")?;
     let provider = found.optional_text(alloc, "provider")?;
     Ok(RenameConf {
-        service: service as u16,
+        service,
         id: short(id),
-        texts: texts_for(alloc, service, name, provider),
-    })
-}
-
-/// The settings of an `sdt` that gives a service these texts, and changes nothing else.
-fn texts_for(
-    alloc: Global,
-    service: u64,
-    name: Option<NameText>,
-    provider: Option<NameText>,
-) -> EditSdtConf
-    ensures { result ≡ RenameSettings.texts_for service name provider }
-{
-    EditSdtConf {
-        remove_service: NumberSet::of(Vec::new(alloc)),
-        service: Some(service),
         name,
         provider,
-        service_type: None,
-        running_status: None,
-        free_ca_mode: None,
-        new_version: None,
-        increment_version: false,
-    }
+    })
 }
 
 /// Whether what has to be given is: the service, and what is changed.

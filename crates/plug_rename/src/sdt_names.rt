@@ -1,76 +1,65 @@
 //! The edit of SDTs and BATs if a service has another number or other texts (ETSI EN 300 468, 5.2.2 and 5.2.3).
 
-ghost use Rattle.std.specs.Prelude.{◌≡◌, IfOk, map, option_map};
+ghost use Rattle.std.specs.Prelude.{◌≡◌, ◌==◌, ◌&&◌, IfOk, map, not, option_map};
 ghost use Rattle.std.specs.List.{list_any};
 ghost use Rattle.ts_si.specs.SiTables.{bat_held, sdt_held, service_item};
-ghost use Rattle.plug_rename.specs.RenameSettings.{IsValidRename};
-ghost use Rattle.plug_edit.specs.SdtEdit.{has_id};
+ghost use Rattle.plug_edit.specs.SdtEdit.{edited_sdt, has_id};
 ghost use Rattle.plug_rename.specs.Renaming;
 ghost use Rattle.plug_rename.specs.Renaming.{lists_as};
 
 use crate::items::number_after;
-use crate::nit_items::{NitItems, streams_as};
-use crate::rename_conf::RenameConf;
+use crate::nit_items::{Items, streams_as};
+use crate::present::Present;
+use crate::texts::{copy_of_text, texts_for};
 use plug_edit::edit_sdt;
 use plug_psi::{Edited, TableEdit, read_current, sections_or_same};
-use service_items::{OfStream, is_bat};
+use service_items::is_bat;
 use std::alloc::{AllocError, Global};
 use ts_section::TableRun;
 use ts_si::{Bat, Sdt, SdtService, SdtServiceList};
 use ts_table_rows::TableRefusal;
+use varied_edits::EditFrom;
 
-/// Gives a service another number and other texts in each current SDT of the actual transport stream that reads, and its items
-/// in each current BAT that reads the other number.
+/// Gives a service its new number and new texts in each current SDT of the actual transport stream that reads, and its items
+/// in each current BAT that reads the new number.
 #[derive(Drop)]
 pub(crate) struct SdtNames {
-    pub(crate) conf: RenameConf,
-    /// The transport_stream_id of the PAT in force, if there is one.
-    pub(crate) stream: Option<u16>,
-    pub(crate) ghost valid: { IsValidRename conf },
+    pub(crate) present: Present,
 }
 
 impl TableEdit for SdtNames {
-    ghost use Rattle.plug_rename.specs.Renaming.{sdt_change};
+    ghost use Rattle.plug_rename.specs.Renaming.{sdt_by};
 
-    ghost change = { λ s run. sdt_change s.conf s.stream run };
+    ghost change = { λ s run. sdt_by s.present run };
 
     fn edit(&self, alloc: Global, run: &TableRun) -> Result<Edited, AllocError> {
         if is_bat(run) {
-            edit_bat(alloc, self.items(), run)
+            edit_bat(alloc, self.present.items(), run)
         } else {
-            edit_names(alloc, &self.conf, run)
+            edit_names(alloc, &self.present, run)
         }
     }
 }
 
-impl OfStream for SdtNames {
-    ghost at_stream = { λ to s. record s { stream = to } };
+impl EditFrom for SdtNames {
+    ghost use Rattle.plug_rename.specs.Renaming.{sdt_by};
 
-    fn stream(&self) -> Option<u16> {
-        self.stream
+    type Source = Present;
+
+    ghost made_from = { λ present run. sdt_by present run };
+
+    fn is_from(&self, present: &Present) -> bool {
+        self.present.is_same(present)
     }
 
-    fn with_stream(&self, alloc: Global, stream: Option<u16>) -> Result<SdtNames, AllocError> {
-        let conf = self.conf.copy(alloc)?;
-        Ok(SdtNames { conf, stream })
-    }
-}
-
-impl SdtNames {
-    /// The edit of the service's items.
-    fn items(&self) -> NitItems
-        ensures { result ≡ record { service = self.now.conf.service; id = self.now.conf.id; stream = self.now.stream } }
-    {
-        NitItems {
-            service: self.conf.service,
-            id: self.conf.id,
-            stream: self.stream,
-        }
+    fn from_source(_alloc: Global, present: &Present) -> Result<SdtNames, AllocError> {
+        let present = present.copy()?;
+        Ok(SdtNames { present })
     }
 }
 
 /// Gives the items of a service in a current BAT that reads another number.
-fn edit_bat(alloc: Global, edit: NitItems, run: &TableRun) -> Result<Edited, AllocError>
+fn edit_bat(alloc: Global, edit: Items, run: &TableRun) -> Result<Edited, AllocError>
     ensures { IfOk result (λ edited. edited ≡ Renaming.bat_change edit.service edit.id edit.stream run.now) }
 {
     let Some(bat) = read_current::<Bat>(alloc, run)? else {
@@ -83,7 +72,7 @@ fn edit_bat(alloc: Global, edit: NitItems, run: &TableRun) -> Result<Edited, All
 }
 
 /// A BAT in which the service's items have another number; `None` if there is no such item, or no other number.
-fn bat_as(alloc: Global, edit: NitItems, bat: Bat) -> Result<Option<Bat>, AllocError>
+fn bat_as(alloc: Global, edit: Items, bat: Bat) -> Result<Option<Bat>, AllocError>
     ensures { IfOk result (λ edited. option_map bat_held edited ≡ lists_as edit.service edit.id edit.stream (bat_held bat)) }
 {
     let Bat {
@@ -106,9 +95,8 @@ fn bat_as(alloc: Global, edit: NitItems, bat: Bat) -> Result<Option<Bat>, AllocE
 }
 
 /// Gives a service another number and other texts in a current SDT of the actual transport stream that reads.
-fn edit_names(alloc: Global, conf: &RenameConf, run: &TableRun) -> Result<Edited, AllocError>
-    requires { IsValidRename conf.now }
-    ensures { IfOk result (λ edited. edited ≡ Renaming.names_change conf.now run.now) }
+fn edit_names(alloc: Global, present: &Present, run: &TableRun) -> Result<Edited, AllocError>
+    ensures { IfOk result (λ edited. edited ≡ Renaming.names_change present.now run.now) }
 {
     let Some(sdt) = read_current::<Sdt>(alloc, run)? else {
         return Ok(Edited::same());
@@ -116,23 +104,42 @@ fn edit_names(alloc: Global, conf: &RenameConf, run: &TableRun) -> Result<Edited
     if !sdt.actual {
         return Ok(Edited::same());
     }
-    let named = with_texts(alloc, conf, sdt)?;
-    let edited = renumbered(alloc, conf, named)?;
+    let edited = named_table(alloc, present, sdt)?;
     sections_or_same(edited.sections(alloc))
 }
 
-/// An SDT with the service's texts, if it has the service and they fit.
-fn with_texts(alloc: Global, conf: &RenameConf, sdt: Sdt) -> Result<Sdt, AllocError>
-    requires { IsValidRename conf.now }
-    ensures { IfOk result (λ named. sdt_held named ≡ Renaming.with_texts conf.now (sdt_held sdt)) }
+/// An SDT with the service's number and texts.
+fn named_table(alloc: Global, present: &Present, sdt: Sdt) -> Result<Sdt, AllocError>
+    ensures { IfOk result (λ edited. sdt_held edited ≡ Renaming.named_table present.now (sdt_held sdt)) }
 {
-    if !has_service(sdt.services.as_slice(), conf.service) {
+    let named = with_texts(alloc, present, sdt)?;
+    let edited = renumbered(alloc, present.service, present.new_number(), named)?;
+    Ok(edited)
+}
+
+/// An SDT with the service's texts, if it has the service and they fit.
+fn with_texts(alloc: Global, present: &Present, sdt: Sdt) -> Result<Sdt, AllocError>
+    ensures { IfOk result (λ named. sdt_held named ≡ Renaming.with_texts present.now (sdt_held sdt)) }
+{
+    if !has_service(sdt.services.as_slice(), present.service) {
         return Ok(sdt);
     }
     let copy = sdt.copy()?;
-    let named = edit_sdt(alloc, &conf.texts, copy)?;
+    let named = with_own_texts(alloc, present, copy)?;
     let left = if_it_fits(alloc, named, sdt)?;
     Ok(left)
+}
+
+/// An SDT to which `sdt` gave the service's texts.
+fn with_own_texts(alloc: Global, present: &Present, sdt: Sdt) -> Result<Option<Sdt>, AllocError>
+    ensures { IfOk result (λ named. option_map sdt_held named
+        ≡ edited_sdt (Renaming.texts_for present.now.service present.now.name present.now.provider) (sdt_held sdt)) }
+{
+    let name = copy_of_text(&present.name)?;
+    let provider = copy_of_text(&present.provider)?;
+    let texts = texts_for(alloc, present.service, name, provider);
+    let named = edit_sdt(alloc, &texts, sdt)?;
+    Ok(named)
 }
 
 /// Another SDT in place of one, if it is there and fits its sections.
@@ -161,16 +168,19 @@ fn has_sections(alloc: Global, sdt: &Sdt) -> Result<bool, AllocError>
     }
 }
 
-/// Whether one of the services has a number.
+/// Whether one of the services has a number, which is not 0.
 fn has_service(services: &[SdtService], id: u16) -> bool
-    ensures { result ≡ list_any (λ service. has_id id (service_item service)) services.now }
+    ensures { result ≡ (not (id == 0) && list_any (λ service. has_id id (service_item service)) services.now) }
 {
+    if id == 0 {
+        return false;
+    }
     services.iter().any(|service| service.service_id == id)
 }
 
 /// An SDT in which the service has another number.
-fn renumbered(alloc: Global, conf: &RenameConf, sdt: Sdt) -> Result<Sdt, AllocError>
-    ensures { IfOk result (λ edited. sdt_held edited ≡ Renaming.with_number conf.now.service conf.now.id (sdt_held sdt)) }
+fn renumbered(alloc: Global, service: u16, id: Option<u16>, sdt: Sdt) -> Result<Sdt, AllocError>
+    ensures { IfOk result (λ edited. sdt_held edited ≡ Renaming.with_number service id (sdt_held sdt)) }
 {
     let Sdt {
         actual,
@@ -180,7 +190,7 @@ fn renumbered(alloc: Global, conf: &RenameConf, sdt: Sdt) -> Result<Sdt, AllocEr
         original_id,
         services,
     } = sdt;
-    let services = services_as(alloc, conf, services.into_vec())?;
+    let services = services_as(alloc, service, id, services.into_vec())?;
     Ok(Sdt {
         actual,
         version,
@@ -194,15 +204,15 @@ fn renumbered(alloc: Global, conf: &RenameConf, sdt: Sdt) -> Result<Sdt, AllocEr
 /// Services of which one has another number.
 fn services_as(
     alloc: Global,
-    conf: &RenameConf,
+    service: u16,
+    id: Option<u16>,
     services: Vec<SdtService>,
 ) -> Result<Vec<SdtService>, AllocError>
-    ensures { IfOk result (λ all. map service_item all.items
-        ≡ Renaming.items_as conf.now.service conf.now.id (map service_item services.items)) }
+    ensures { IfOk result (λ all. map service_item all.items ≡ Renaming.items_as service id (map service_item services.items)) }
 {
     let mut all = Vec::new(alloc);
-    for service in services {
-        all.push(service_as(conf.service, conf.id, service))?;
+    for one in services {
+        all.push(service_as(service, id, one))?;
     }
     Ok(all)
 }

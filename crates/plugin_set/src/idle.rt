@@ -5,6 +5,7 @@ use plug_eit::Eit;
 use plug_inject::Inject;
 use plug_move::Remap;
 use plug_psi::Unedited;
+use plug_rename::Rename;
 use plug_service::{ServiceSteps, Unnamed};
 use plug_tables::Tables;
 use plug_time::Time;
@@ -62,7 +63,7 @@ fn idle_of_tables(plugin: &TablesPlugin) -> Result<Option<Idle>, AllocError> {
         TablesPlugin::Nit(plugin) => idle_editor(plugin.steps.unedited()),
         TablesPlugin::Zap(plugin) => idle_services(&plugin.steps),
         TablesPlugin::Svremove(plugin) => idle_services(&plugin.steps),
-        TablesPlugin::Svrename(plugin) => idle_editor(Ok(plugin.steps.unedited())),
+        TablesPlugin::Svrename(plugin) => idle_rename(plugin),
         TablesPlugin::Time(plugin) => Ok(idle_time(plugin)),
         TablesPlugin::Eit(plugin) => idle_eit(plugin),
     }
@@ -84,6 +85,13 @@ fn idle_services(steps: &ServiceSteps) -> Result<Option<Idle>, AllocError> {
         return Ok(Some(Idle::Unedited(why)));
     }
     Ok(steps.unnamed()?.map(idle_name))
+}
+
+fn idle_rename(plugin: &Rename) -> Result<Option<Idle>, AllocError> {
+    if let Some(why) = plugin.steps.unnamed()? {
+        return Ok(Some(idle_name(why)));
+    }
+    Ok(plugin.steps.unedited().map(Idle::Unedited))
 }
 
 fn idle_name(why: Unnamed) -> Idle {

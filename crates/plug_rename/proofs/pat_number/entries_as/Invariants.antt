@@ -4,4 +4,4 @@ use Rattle.plug_rename.specs.Renaming.{items_as}
 use Rattle.plug_rename.proofs.pat_number.entries_as.Given as goal
 
 abbrev pub invariant-loop-entry : goal.invariant-loop-entry
-invariant-loop-entry l = map service_item l.all.items ≡ items_as l.edit.service l.edit.id (map service_item l.yielded)
+invariant-loop-entry l = map service_item l.all.items ≡ items_as l.service l.id (map service_item l.yielded)

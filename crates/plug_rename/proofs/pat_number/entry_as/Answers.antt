@@ -7,4 +7,4 @@ use Rattle.plug_rename.proofs.pat_number.entry_as.Goals as goal
 pub returns : goal.returns
 returns c =
     ap (λ own. entry_item own c.args.entry.pid) c.number_after.ensures.tells
-    ∙ item-as c.args.edit.service c.args.edit.id c.args.entry.service_id (number c.args.entry.pid ∷ []) []
+    ∙ item-as c.args.service c.args.id c.args.entry.service_id (number c.args.entry.pid ∷ []) []
