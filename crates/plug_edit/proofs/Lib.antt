@@ -1,5 +1,6 @@
 pub mod ChangingLemmas
 pub mod PatLemmas
+pub mod AlikeLemmas
 pub mod PmtPlaceLemmas
 pub mod PmtWordsLemmas
 pub mod CatLemmas

@@ -1,8 +1,10 @@
 -- The place where `pmt` edits.
-use Rattle.std.proofs.Common.{◌≡◌, ◌∙◌, ℕ, ◌≤◌, List, Option, None, Some, ap, arith, sym}
+use Rattle.std.proofs.Common.{◌≡◌, ◌∙◌, ℕ, ◌≤◌, List, Option, None, Some, ap, arith, subst, sym}
 use Rattle.std.specs.Prelude.{IfSome}
 use Rattle.chain_model.specs.PluginRule.{PluginRule, passes}
 use Rattle.plugin_trait.specs.SilentRule.{silent_rule}
+use Rattle.named_services.specs.ServiceWords.{SaysService}
+use Rattle.named_services.specs.declared.service_word.ServiceWord.{ServiceWord}
 use Rattle.plug_edit.specs.Changes.{change_pmt}
 use Rattle.plug_edit.specs.PmtRule.{dropped_pids, pmt_rule, rule_at}
 use Rattle.plug_edit.specs.PmtSettings.{IsPlace}
@@ -10,15 +12,15 @@ use Rattle.plug_edit.specs.PmtWords.{place_of}
 use Rattle.plug_edit.specs.declared.pmt_conf.EditPmtConf.{EditPmtConf}
 use Rattle.plug_edit.specs.declared.pmt_place.PmtPlace.{PmtPlace}
 
--- numbers in their ranges make a place
-pub is-place : (service : Option ℕ) (pid : ℕ) → IfSome service (λ k. (1 ≤ k) × (k ≤ 65535)) → pid ≤ 8191 → IsPlace (place_of service pid)
-is-place None pid h below = record {
+-- a word that says which service is meant, or a PID in its range, makes a place
+pub is-place : (word : Option ServiceWord) (pid : ℕ) → IfSome word SaysService → pid ≤ 8191 → IsPlace (place_of word pid)
+is-place None pid says below = record {
   on_pid = λ p e. let same : pid ≡ p = cc e in omega (arith, below, same);
-  of_service = λ s e. absurd (cc e);
+  of_service = λ w e. absurd (cc e);
 }
-is-place (Some service) pid h below = record {
+is-place (Some word) pid says below = record {
   on_pid = λ p e. absurd (cc e);
-  of_service = λ s e. let same : service ≡ s = cc e in (omega (arith, h.0, same), omega (arith, h.1, same));
+  of_service = λ w e. let same : word ≡ w = cc e in subst SaysService same says;
 }
 
 -- what becomes of a packet, and whether a run has a fault, by a rule, as the rule of the steps has it

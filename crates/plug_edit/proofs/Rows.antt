@@ -11,11 +11,11 @@ use Rattle.plug_psi.proofs.RowTables.{item_of, table_of}
 use Rattle.plug_edit.specs.Changing.{changed_first, changed_one}
 use Rattle.plug_edit.specs.PatEdit.{edited_pat}
 use Rattle.plug_edit.specs.CatEdit.{edited_cat, with_ca}
-use Rattle.plug_edit.specs.PmtEdit.{edited_pmt, pmt_at}
+use Rattle.plug_edit.specs.PmtEdit.{edited_pmt, pmt_for}
 use Rattle.plug_edit.specs.SdtEdit.{edited_sdt}
 use Rattle.plug_edit.specs.NitEdit.{edited_nit}
 use Rattle.plug_edit.specs.declared.pmt_changes.PmtChanges.{PmtChanges}
-use Rattle.plug_edit.specs.declared.pmt_place.PmtPlace.TheVariants.{OnPid, OfService}
+use Rattle.plug_edit.specs.declared.pmt_place.PmtPlace.TheVariants.{OnPid}
 
 -- a table of another version
 abbrev of_version : ℕ → TableHolding → TableHolding
@@ -59,12 +59,12 @@ unfolding descriptors_from with_ca
 pmt-pcr = refl
 
 -- with a service its own PMT is edited, and that of another one stays as it is
-pmt-of-service : pmt_at (record { place = OfService 1; add_pid = []; remove_pid = []; move_pid = (256, 500) ∷ []; pcr_pid = None; changes = no_changes; drop = false; stuffing = false; new_version = None; increment_version = false }) pmt_row
+pmt-of-service : pmt_for (record { place = OnPid 4096; add_pid = []; remove_pid = []; move_pid = (256, 500) ∷ []; pcr_pid = None; changes = no_changes; drop = false; stuffing = false; new_version = None; increment_version = false }) (Some 1) pmt_row
     ≡ Some (table_of 0x02 1 (500 ∷ []) [] (item_of 2 500 [] ∷ item_of 3 257 [] ∷ []))
 unfolding descriptors_from with_ca
 pmt-of-service = refl
 
-pmt-of-another : pmt_at (record { place = OfService 2; add_pid = []; remove_pid = []; move_pid = (256, 500) ∷ []; pcr_pid = None; changes = no_changes; drop = false; stuffing = false; new_version = None; increment_version = false }) pmt_row
+pmt-of-another : pmt_for (record { place = OnPid 4096; add_pid = []; remove_pid = []; move_pid = (256, 500) ∷ []; pcr_pid = None; changes = no_changes; drop = false; stuffing = false; new_version = None; increment_version = false }) (Some 2) pmt_row
     ≡ None
 pmt-of-another = refl
 

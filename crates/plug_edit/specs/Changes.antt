@@ -1,7 +1,7 @@
 -- What each editor makes of a run of sections.
 -- ISO/IEC 13818-1, 2.4.4.3 to 2.4.4.9, and ETSI EN 300 468, 5.2.1 and 5.2.3: the NIT of the actual network has
 -- table_id 0x40, and the SDT of the actual transport stream 0x42.
-use Rattle.std.specs.Prelude.{ℕ, List, Some}
+use Rattle.std.specs.Prelude.{ℕ, List, Option, Some}
 use Rattle.ts_table_rows.specs.RunReading.{read_run}
 use Rattle.ts_psi.specs.PsiPages.{cat_page, pat_page, pmt_page}
 use Rattle.ts_psi.specs.CatTables.{read_cat}
@@ -12,7 +12,7 @@ use Rattle.plug_psi.specs.Edits.{Change}
 use Rattle.plug_psi.specs.TableChange.{changed_current, of_id}
 use Rattle.plug_edit.specs.PatEdit.{edited_pat}
 use Rattle.plug_edit.specs.CatEdit.{edited_cat}
-use Rattle.plug_edit.specs.PmtEdit.{pmt_at}
+use Rattle.plug_edit.specs.PmtEdit.{pmt_for}
 use Rattle.plug_edit.specs.SdtEdit.{edited_sdt}
 use Rattle.plug_edit.specs.declared.sdt_conf.EditSdtConf.{EditSdtConf}
 use Rattle.plug_edit.specs.NitEdit.{edited_nit}
@@ -29,9 +29,9 @@ change_pat conf run = changed_current pat_page (λ table. Some (edited_pat conf 
 abbrev pub change_cat : EditCatConf → List (List ℕ) → Change
 change_cat conf run = changed_current cat_page (edited_cat conf) (current_in (read_cat run))
 
--- what `pmt` makes of a PMT; with a service, those of others stay as they are
-abbrev pub change_pmt : EditPmtConf → List (List ℕ) → Change
-change_pmt conf run = changed_current pmt_page (pmt_at conf) (current_in (read_run pmt_page run))
+-- what `pmt` makes of a PMT; with the number of a service, those of others stay as they are
+abbrev pub change_pmt : EditPmtConf → Option ℕ → List (List ℕ) → Change
+change_pmt conf service run = changed_current pmt_page (pmt_for conf service) (current_in (read_run pmt_page run))
 
 -- what `nit` makes of a NIT of the actual network
 abbrev pub change_nit : EditNitConf → List (List ℕ) → Change

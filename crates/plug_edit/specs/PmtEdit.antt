@@ -2,7 +2,7 @@
 -- ISO/IEC 13818-1, 2.4.4.8: a component has a stream_type, an elementary_PID and descriptors. The edit is this project's
 -- own rule: components are removed, then others are added, then PIDs are moved, then PCR_PID is set, then descriptors are
 -- taken out and put in, then the version is set.
-use Rattle.std.specs.Prelude.{ℕ, Bool, true, List, [], ◌∷◌, filter, fold, map, nat_eq, not, option_map, Option, None, unwrap_or, if◌then◌else◌}
+use Rattle.std.specs.Prelude.{ℕ, Bool, true, List, [], ◌∷◌, filter, fold, map, nat_eq, not, option_map, Option, None, Some, unwrap_or, if◌then◌else◌}
 use Rattle.ts_bits.specs.TaggedBody.{TaggedBody}
 use Rattle.ts_fields.specs.Layout.{number}
 use Rattle.ts_table_rows.specs.TableValues.{ItemHolding, TableHolding}
@@ -14,8 +14,6 @@ use Rattle.plug_psi.specs.NumbersHeld.{number_at}
 use Rattle.plug_edit.specs.PmtChanges.{changed_components, changed_program}
 use Rattle.plug_edit.specs.Versions.{edited_version}
 use Rattle.plug_edit.specs.declared.pmt_conf.EditPmtConf.{EditPmtConf}
-use Rattle.plug_edit.specs.declared.pmt_place.PmtPlace.{PmtPlace}
-use Rattle.plug_edit.specs.declared.pmt_place.PmtPlace.TheVariants.{OnPid, OfService}
 
 -- a component is on this PID
 abbrev pub is_on : ℕ → Component → Bool
@@ -82,11 +80,11 @@ pmt_with conf table descriptors = record {
 abbrev pub edited_pmt : EditPmtConf → TableHolding → Option TableHolding
 edited_pmt conf table = option_map (pmt_with conf table) (changed_program conf.changes table.body.descriptors)
 
--- whether a PMT with this program_number is edited: on a PID each one, of a service its own
-abbrev pub is_edited_at : PmtPlace → ℕ → Bool
-is_edited_at (OnPid pid) program = true
-is_edited_at (OfService service) program = nat_eq program service
+-- whether a PMT with this program_number is edited: of a service its own, and without one each
+abbrev pub is_edited_for : Option ℕ → ℕ → Bool
+is_edited_for None program = true
+is_edited_for (Some service) program = nat_eq program service
 
 -- a PMT after the edit where it is one that is edited; none if it stays as it is
-abbrev pub pmt_at : EditPmtConf → TableHolding → Option TableHolding
-pmt_at conf table = if is_edited_at conf.place table.head.extension then edited_pmt conf table else None
+abbrev pub pmt_for : EditPmtConf → Option ℕ → TableHolding → Option TableHolding
+pmt_for conf service table = if is_edited_for service table.head.extension then edited_pmt conf table else None

@@ -1,8 +1,9 @@
 -- The rule of `pmt`.
 -- ISO/IEC 13818-1, 2.4.4.3: the PAT names the PID of a service's PMT. This project's own rule: the PMTs on a PID are edited,
--- whatever the PAT says of it, or those of a service on the PID that the first entry of the service in the PAT in force has.
+-- whatever the PAT says of it, or those of the service that a word means by the SDT in force, on the PID that the first entry of
+-- that service in the PAT in force has.
 -- The packets of components that are taken out may go too. Those on the PID of the PMTs never do, since they are edited.
-use Rattle.std.specs.Prelude.{ℕ, ◌&&◌, Bool, List, [], None, nat_eq, not, if◌then◌else◌}
+use Rattle.std.specs.Prelude.{ℕ, ◌&&◌, Bool, List, [], Option, None, Some, nat_eq, not, if◌then◌else◌}
 use Rattle.ts_packet.specs.declared.cell.Cell.{Cell}
 use Rattle.ts_packet.specs.Cells.{live_packets}
 use Rattle.ts_packet.specs.Header.{pid_of}
@@ -36,17 +37,21 @@ without_pids dropped stuffing pid rule = record rule {
 abbrev pub on_pid : ℕ → (List (List ℕ) → Change) → List (ℕ × ℕ) → Bool → PluginRule
 on_pid pid change dropped stuffing = without_pids dropped stuffing pid (edit_rule pid change)
 
--- what becomes of a packet, after the cells that were met before
-abbrev pub outcome_at : PmtPlace → (List (List ℕ) → Change) → List (ℕ × ℕ) → Bool → List Cell → List ℕ → RuleOutcome
-outcome_at (OnPid pid) change dropped stuffing history packet =
-    if goes dropped pid packet then action stuffing None else edited_on pid change history packet
-outcome_at (OfService service) change dropped stuffing history packet =
-    action stuffing (made_of service change dropped (live_packets history) packet)
+-- what is made of tables: of all PMTs, or of that of a service alone
+abbrev pub PmtChange : Type 0
+PmtChange = Option ℕ → List (List ℕ) → Change
 
--- whether a packet is edited with which, or before which, a table was complete that the edit alters
-abbrev pub finds_at : PmtPlace → (List (List ℕ) → Change) → List Cell → List ℕ → ℕ → Bool
-finds_at (OnPid pid) change = on_one.finds_altered pid change
-finds_at (OfService service) change = of_service.finds_altered service change
+-- what becomes of a packet, after the cells that were met before
+abbrev pub outcome_at : PmtPlace → PmtChange → List (ℕ × ℕ) → Bool → List Cell → List ℕ → RuleOutcome
+outcome_at (OnPid pid) change dropped stuffing history packet =
+    if goes dropped pid packet then action stuffing None else edited_on pid (change None) history packet
+outcome_at (OfService word) change dropped stuffing history packet =
+    action stuffing (made_of word (λ service. change (Some service)) dropped (live_packets history) packet)
+
+-- whether a packet is edited up to which a table was complete that the edit alters
+abbrev pub finds_at : PmtPlace → PmtChange → List Cell → List ℕ → ℕ → Bool
+finds_at (OnPid pid) change = on_one.finds_altered pid (change None)
+finds_at (OfService word) change = of_service.finds_altered word (λ service. change (Some service))
 
 -- the PIDs whose packets go
 abbrev pub dropped_pids : EditPmtConf → List (ℕ × ℕ)
@@ -54,7 +59,7 @@ dropped_pids conf = if conf.drop then conf.remove_pid else []
 
 -- the PMTs of the place are edited, and the packets that go are taken out; a run has a fault in which no complete PMT came
 -- that the edit alters
-abbrev pub rule_at : PmtPlace → (List (List ℕ) → Change) → List (ℕ × ℕ) → Bool → PluginRule
+abbrev pub rule_at : PmtPlace → PmtChange → List (ℕ × ℕ) → Bool → PluginRule
 rule_at place change dropped stuffing =
     record (silent_rule (outcome_at place change dropped stuffing)) { has_fault = finds_none (finds_at place change) }
 

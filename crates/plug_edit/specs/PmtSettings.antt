@@ -1,12 +1,13 @@
 -- Valid settings of `pmt`.
--- ISO/IEC 13818-1, 2.4.4.5: a program_number has 16 bits, and 0 is not that of a service; 2.4.4.9: a stream_type has eight
--- bits, a PID has 13; 2.6.18: a code has three bytes. This project's own
+-- ISO/IEC 13818-1, 2.4.4.9: a stream_type has eight bits, a PID has 13; 2.6.18: a code has three bytes. This project's own
 -- rule: at most one of the two options of the version is given.
 use Rattle.std.specs.Prelude.{◌≡◌, ℕ, ◌<◌, IsTrue, List, length}
 use Rattle.std.specs.Option.{ForSome}
 use Rattle.std.specs.List.{All}
 use Rattle.ts_packet.specs.declared.numbers.TheConstants.{PID_COUNT}
 use Rattle.plugin_options.specs.NumberSet.{AllBelow}
+use Rattle.named_services.specs.ServiceWords.{SaysService}
+use Rattle.named_services.specs.declared.service_word.ServiceWord.{ServiceWord}
 use Rattle.plug_edit.specs.CatSettings.{IsAddedCa}
 use Rattle.plug_edit.specs.Versions.{IsVersion, versions_agree}
 use Rattle.plug_edit.specs.declared.pmt_changes.PmtChanges.{PmtChanges}
@@ -14,10 +15,10 @@ use Rattle.plug_edit.specs.declared.pmt_conf.EditPmtConf.{EditPmtConf}
 use Rattle.plug_edit.specs.declared.pmt_place.PmtPlace.{PmtPlace}
 use Rattle.plug_edit.specs.declared.pmt_place.PmtPlace.TheVariants.{OnPid, OfService}
 
--- a PID, or the number of a service
+-- a PID, or a word that says which service is meant
 pub record IsPlace (place : PmtPlace) : Type 0 where
   pub on_pid : (pid : ℕ) → place ≡ OnPid pid → pid < PID_COUNT
-  pub of_service : (service : ℕ) → place ≡ OfService service → (0 < service) × (service < 65536)
+  pub of_service : (word : ServiceWord) → place ≡ OfService word → SaysService word
 
 -- a PID and a type
 pub record IsAddedComponent (pair : ℕ × ℕ) : Type 0 where

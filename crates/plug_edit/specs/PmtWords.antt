@@ -4,10 +4,12 @@ use Rattle.std.specs.Prelude.{ℕ, ◌&&◌, ◌||◌, ◌++◌, [], ◌∷◌, 
 use Rattle.clap.specs.Walk.{Row}
 use Rattle.plugin_options.specs.declared.limits.TheConstants.{LAST_PID}
 use Rattle.plugin_options.specs.declared.part.Part.TheVariants.{Code, Descriptors}
-use Rattle.plugin_options.specs.Forms.{number, part, ranges}
-use Rattle.plugin_options.specs.Number.{number_within}
+use Rattle.plugin_options.specs.Forms.{known, part, ranges}
 use Rattle.plugin_options.specs.Options.{OptionRow, flag, has_flag, has_value, read_value, value}
 use Rattle.plugin_options.specs.OptionTable.{OptionTable}
+use Rattle.plugin_options.specs.ServiceTexts.{is_service}
+use Rattle.named_services.specs.ServiceWords.{word_of}
+use Rattle.named_services.specs.declared.service_word.ServiceWord.{ServiceWord}
 use Rattle.plug_edit.specs.EditWords.{number_found, number_row, numbered_found, numbered_row, pairs_found, pairs_row, part_found, ranges_found, version_rows}
 use Rattle.plug_edit.specs.Versions.{versions_agree}
 use Rattle.plug_edit.specs.declared.limits.TheConstants.{LAST_ID, LAST_TAG, LAST_TYPE, LAST_VERSION}
@@ -35,7 +37,7 @@ last_rows = record { name = codes "drop"; kind = flag }
 -- the options of the place, of which exactly one is given
 abbrev pub place_rows : List OptionRow
 place_rows = number_row (codes "pmt-pid") LAST_PID
-    ∷ record { name = codes "service"; kind = value (number 1 LAST_ID) }
+    ∷ record { name = codes "service"; kind = value (known is_service) }
     ∷ []
 
 -- the options of components
@@ -51,14 +53,14 @@ abbrev pub pmt_rows : List OptionRow
 pmt_rows = place_rows ++ (component_rows ++ (change_rows ++ last_rows))
 
 -- the place: that of a service, where one is given
-abbrev pub place_of : Option ℕ → ℕ → PmtPlace
+abbrev pub place_of : Option ServiceWord → ℕ → PmtPlace
 place_of None pid = OnPid pid
-place_of (Some service) pid = OfService service
+place_of (Some word) pid = OfService word
 
 -- the place from the values that were found
 abbrev pub place_found : List Row → PmtPlace
 place_found found =
-    place_of (read_value (number_within 1 LAST_ID) (codes "service") found) (unwrap_or (number_found (codes "pmt-pid") LAST_PID found) 0)
+    place_of (read_value word_of (codes "service") found) (unwrap_or (number_found (codes "pmt-pid") LAST_PID found) 0)
 
 -- the changes of descriptors from the values that were found
 abbrev pub changes_found : List Row → PmtChanges

@@ -1,7 +1,8 @@
 //! What `pmt` changes of the descriptors of a program and its components.
 
-ghost use Rattle.std.specs.Prelude.{◌≡◌, IfOk};
+ghost use Rattle.std.specs.Prelude.{◌≡◌, IfOk, true};
 
+use crate::same_parts::{same_bytes, same_pairs, same_parts};
 use plugin_options::{NumberSet, NumberedParts, PairList};
 use std::alloc::{AllocError, Global};
 use ts_outside::FileBytes;
@@ -43,5 +44,36 @@ impl PmtChanges {
             add_descriptor: self.add_descriptor.copy()?,
             add_pid_descriptor: self.add_pid_descriptor.copy()?,
         })
+    }
+
+    /// Whether both are the same changes.
+    pub(crate) fn is_same(&self, other: &PmtChanges) -> bool
+        ensures { result ≡ true → self.now ≡ other.now }
+    {
+        if !same_pairs(
+            self.remove_descriptor.as_slice(),
+            other.remove_descriptor.as_slice(),
+        ) {
+            return false;
+        }
+        if !same_pairs(
+            self.remove_pid_descriptor.as_slice(),
+            other.remove_pid_descriptor.as_slice(),
+        ) {
+            return false;
+        }
+        if !same_parts(self.language.as_slice(), other.language.as_slice()) {
+            return false;
+        }
+        if !same_pairs(self.add_ca.as_slice(), other.add_ca.as_slice()) {
+            return false;
+        }
+        if !same_bytes(&self.add_descriptor, &other.add_descriptor) {
+            return false;
+        }
+        same_parts(
+            self.add_pid_descriptor.as_slice(),
+            other.add_pid_descriptor.as_slice(),
+        )
     }
 }

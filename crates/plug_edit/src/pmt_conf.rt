@@ -1,9 +1,11 @@
 //! The settings of `pmt`.
 
-ghost use Rattle.std.specs.Prelude.{◌≡◌, IfOk};
+ghost use Rattle.std.specs.Prelude.{◌≡◌, IfOk, Option, true, ℕ};
+ghost use Rattle.plug_edit.specs.Changes.{change_pmt};
 
 use crate::pmt_changes::PmtChanges;
 use crate::pmt_place::PmtPlace;
+use crate::same_parts::{same_flag, same_number, same_pairs};
 use plugin_options::{NumberSet, PairList};
 use std::alloc::{AllocError, Global};
 
@@ -38,7 +40,7 @@ impl EditPmtConf {
         ensures { IfOk result (λ conf. conf ≡ self.now) }
     {
         Ok(EditPmtConf {
-            place: self.place,
+            place: self.place.copy()?,
             add_pid: PairList::of(Vec::from_slice(alloc, self.add_pid.as_slice())?),
             remove_pid: NumberSet::of(Vec::from_slice(alloc, self.remove_pid.as_slice())?),
             move_pid: PairList::of(Vec::from_slice(alloc, self.move_pid.as_slice())?),
@@ -49,5 +51,30 @@ impl EditPmtConf {
             new_version: self.new_version,
             increment_version: self.increment_version,
         })
+    }
+
+    /// Whether both are known to make the same of each PMT, wherever it is.
+    pub(crate) fn edits_alike(&self, other: &EditPmtConf) -> bool
+        ensures { result ≡ true → (service : Option ℕ) → change_pmt self.now service ≡ change_pmt other.now service }
+    {
+        if !same_pairs(self.add_pid.as_slice(), other.add_pid.as_slice()) {
+            return false;
+        }
+        if !same_pairs(self.remove_pid.as_slice(), other.remove_pid.as_slice()) {
+            return false;
+        }
+        if !same_pairs(self.move_pid.as_slice(), other.move_pid.as_slice()) {
+            return false;
+        }
+        if !same_number(self.pcr_pid, other.pcr_pid) {
+            return false;
+        }
+        if !same_number(self.new_version, other.new_version) {
+            return false;
+        }
+        if !same_flag(self.increment_version, other.increment_version) {
+            return false;
+        }
+        self.changes.is_same(&other.changes)
     }
 }

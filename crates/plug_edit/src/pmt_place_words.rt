@@ -8,9 +8,10 @@ ghost use Rattle.plug_edit.specs.PmtSettings.{IsPlace};
 ghost use Rattle.plug_edit.specs.PmtWords;
 ghost use Rattle.plug_edit.specs.PmtWords.{place_found, place_rows, pmt, pmt_rows};
 
-use crate::limits::LAST_ID;
 use crate::pmt_place::PmtPlace;
+use followed_services::{ServiceWord, service_option};
 use plugin_options::{LAST_PID, ParsedOptions, Refusal};
+use std::alloc::Global;
 
 /// Whether a place is given.
 pub(crate) fn has_place(found: &ParsedOptions) -> bool
@@ -27,23 +28,23 @@ pub(crate) fn places_agree(found: &ParsedOptions) -> bool
 }
 
 /// Reads the place from what the command of `pmt` found in the words.
-pub(crate) fn place_in(found: &ParsedOptions) -> Result<PmtPlace, Refusal>
+pub(crate) fn place_in(alloc: Global, found: &ParsedOptions) -> Result<PmtPlace, Refusal>
     ensures reads { MatchResult result
         (λ place. (are_well_formed place_rows found.now ≡ true) × (place ≡ place_found found.now))
         (IsRefusedBy Value (are_well_formed pmt_rows found.now ≡ false)) }
     ensures valid { IfOk result IsPlace }
 {
     let pid = found.number_or("pmt-pid", 0, LAST_PID, 0)?;
-    let service = found.number("service", 1, LAST_ID)?;
-    Ok(place_of(service, pid))
+    let word = service_option(alloc, found, "service")?;
+    Ok(place_of(word, pid))
 }
 
 // The place: that of a service, where one is given.
-fn place_of(service: Option<u64>, pid: u64) -> PmtPlace
-    ensures { result ≡ PmtWords.place_of service pid }
+fn place_of(word: Option<ServiceWord>, pid: u64) -> PmtPlace
+    ensures { result ≡ PmtWords.place_of word pid }
 {
-    match service {
-        Some(service) => PmtPlace::OfService(service),
+    match word {
+        Some(word) => PmtPlace::OfService(word),
         None => PmtPlace::OnPid(pid),
     }
 }

@@ -8,11 +8,12 @@ ghost use Rattle.plug_edit.specs.PmtState.{StandsFor, rule_of};
 use crate::pmt_conf::EditPmtConf;
 use crate::pmt_on_pid::{dropped, new_on_pid};
 use crate::pmt_place::PmtPlace;
+use crate::pmt_source::new_source;
 use crate::pmt_tables::{PmtTables, new_tables};
 use crate::pmt_ways::PmtWays;
 use plug_psi::TableEdit;
 use plugin_trait::{Plugin, Silent};
-use service_edit::new_service_steps;
+use service_edit::{ServiceTableEdit, new_service_steps};
 use std::alloc::{AllocError, Global};
 
 /// The plugin `pmt`, which edits the PMTs on a PID, or those of a service.
@@ -36,24 +37,20 @@ pub fn new_edit_pmt(
 // New steps for the place where the PMTs are.
 fn new_ways(alloc: Global, conf: &EditPmtConf) -> Result<PmtWays<PmtTables>, AllocError>
     requires { IsValidPmt conf.now }
-    ensures rule { IfOk result (λ ways. rule_of ⟦<PmtTables as TableEdit>⟧.change ways ≡ pmt_rule conf.now) }
-    ensures fresh { IfOk result (λ ways. StandsFor ⟦<PmtTables as TableEdit>⟧.change ways []) }
+    ensures rule { IfOk result (λ ways. rule_of ⟦<PmtTables as TableEdit>⟧.change ⟦<PmtTables as ServiceTableEdit>⟧.change_of ways ≡ pmt_rule conf.now) }
+    ensures fresh { IfOk result (λ ways. StandsFor ⟦<PmtTables as TableEdit>⟧.change ⟦<PmtTables as ServiceTableEdit>⟧.change_of ways []) }
 {
     let dropped = dropped(alloc, conf)?;
-    let edit = new_tables(alloc, conf)?;
-    match conf.place {
+    match &conf.place {
         PmtPlace::OnPid(pid) => {
-            let on_pid = new_on_pid(alloc, pid as u16, edit, dropped, conf.stuffing)?;
+            let edit = new_tables(alloc, conf, None)?;
+            let on_pid = new_on_pid(alloc, *pid as u16, edit, dropped, conf.stuffing)?;
             Ok(PmtWays::OnPid(on_pid))
         }
-        PmtPlace::OfService(service) => {
-            let of_service = new_service_steps(
-                alloc,
-                service as u16,
-                edit,
-                dropped,
-                conf.stuffing,
-            )?;
+        PmtPlace::OfService(word) => {
+            let word = word.copy()?;
+            let source = new_source(alloc, conf)?;
+            let of_service = new_service_steps(alloc, word, source, dropped, conf.stuffing)?;
             Ok(PmtWays::OfService(of_service))
         }
     }

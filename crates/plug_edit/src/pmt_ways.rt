@@ -1,6 +1,7 @@
 //! The steps of `pmt` in its two ways: the tables of a PID are edited, or those on the PID of a service's PMT.
 
 use crate::pmt_steps::PmtSteps;
+use followed_services::Unnamed;
 use plug_psi::{Changes, Unedited};
 use plugin_trait::{Outcome, Steps};
 use service_edit::{ServiceEditSteps, ServiceTableEdit};
@@ -14,7 +15,7 @@ use ts_packet::{Labels, Packet};
 pub enum PmtWays<E: ServiceTableEdit> {
     /// On a PID, whatever the PAT says of it.
     OnPid(PmtSteps<E>),
-    /// On the PID that the PAT in force names for a service.
+    /// On the PID that the PAT in force names for the service that a word means.
     OfService(ServiceEditSteps<E>),
 }
 
@@ -24,6 +25,14 @@ impl<E: ServiceTableEdit> PmtWays<E> {
         match self {
             PmtWays::OnPid(steps) => steps.unedited(),
             PmtWays::OfService(steps) => Ok(steps.unedited()),
+        }
+    }
+
+    /// Why the word of a service means none by the tables in force; `None` where it means one, or where a PID is given.
+    pub fn unnamed(&self) -> Result<Option<Unnamed>, AllocError> {
+        match self {
+            PmtWays::OnPid(_) => Ok(None),
+            PmtWays::OfService(steps) => steps.unnamed(),
         }
     }
 
@@ -40,9 +49,9 @@ impl<E: ServiceTableEdit> Steps for PmtWays<E> {
     ghost use Rattle.std.specs.Prelude.{None, refl};
     ghost use Rattle.plug_edit.specs.PmtState.{StandsFor, rule_of};
 
-    ghost rule = { λ s. rule_of E.change s };
+    ghost rule = { λ s. rule_of E.change E.change_of s };
 
-    ghost stands_for = { λ s history. StandsFor E.change s history };
+    ghost stands_for = { λ s history. StandsFor E.change E.change_of s history };
 
     ghost preallocated = { λ _. None };
 

@@ -38,10 +38,10 @@ static PMT: [OptionRow; 16] = [
         },
     },
     OptionRow {
-        word: OptionWord::Value("service", Takes::Number(1, LAST_ID)),
+        word: OptionWord::Value("service", Takes::Service),
         text: OptionText {
             value: "S",
-            meaning: "1 to 65535: the service of the PMTs, on the PID that its first entry of the PAT in force has",
+            meaning: "1 to 65535: the number of the service of the PMTs, on the PID that its first entry of the PAT in force has; or its name, letter for letter as info reports it beside the number",
             need: Need::Required,
             beside: Beside::Choice(1),
         },
@@ -244,7 +244,7 @@ fn pmt_settings(alloc: Global, found: &ParsedOptions) -> Result<EditPmtConf, Ref
     if !has_place(found) {
         return Err(Refusal::Broken(WordsRule::Missing));
     }
-    let place = place_in(found)?;
+    let place = place_in(alloc, found)?;
     let pcr_pid = number_up_to(found, "pcr-pid", LAST_PID)?;
     let new_version = number_up_to(found, "new-version", LAST_VERSION)?;
     let add_pid = added_components(alloc, found)?;
@@ -285,7 +285,7 @@ impl PluginSettings for EditPmtConf {
     fn help() -> PluginHelp {
         PluginHelp {
             usage: "-P pmt --pmt-pid PID | --service S [--add-pid PID/TYPE,..] [--remove-pid LIST] [--move-pid OLD/NEW,..] [--pcr-pid PID] [--remove-descriptor LIST] [--remove-pid-descriptor PID/TAG,..] [--language PID/CODE,..] [--add-ca SYS/PID,..] [--add-descriptor HEX] [--add-pid-descriptor PID/HEX,..] [--drop [--stuffing]] [--new-version N | --increment-version]",
-            rule: "Each packet on the PID becomes the next packet of the edited PMTs, or a null packet until a table is known. With --service the PID is that of the service in the PAT in force, PMTs of other services there stay as they are, and where the PAT has no such service all packets pass. The packets of the components stay as they are, unless --drop is given. Components are left out first, then the other options come in this order, and then the version. A PMT that would not fit stays as it was. A table that changes without a new version is written on as it was first.",
+            rule: "Each packet on the PID becomes the next packet of the edited PMTs, or a null packet until a table is known. With --service the PID is that of the service in the PAT in force, PMTs of other services there stay as they are, and where the PAT has no such service all packets pass. A service is given by its number, or by its name as info shows it: the first of that name in the SDT in force, at each packet. The packets of the components stay as they are, unless --drop is given. Components are left out first, then the other options come in this order, and then the version. A PMT that would not fit stays as it was. A table that changes without a new version is written on as it was first.",
         }
     }
 

@@ -1,6 +1,7 @@
 //! Why a plugin was idle: it edited, inserted or read nothing.
 
 use crate::some_plugin::SomePlugin;
+use plug_edit::EditPmt;
 use plug_eit::Eit;
 use plug_inject::Inject;
 use plug_move::Remap;
@@ -57,7 +58,7 @@ fn idle_of_tables(plugin: &TablesPlugin) -> Result<Option<Idle>, AllocError> {
     match plugin {
         TablesPlugin::Pat(plugin) => idle_editor(plugin.steps.unedited()),
         TablesPlugin::Cat(plugin) => idle_editor(plugin.steps.unedited()),
-        TablesPlugin::Pmt(plugin) => idle_editor(plugin.steps.unedited()),
+        TablesPlugin::Pmt(plugin) => idle_pmt(plugin),
         TablesPlugin::Sdt(plugin) => idle_editor(plugin.steps.unedited()),
         TablesPlugin::Nit(plugin) => idle_editor(plugin.steps.unedited()),
         TablesPlugin::Zap(plugin) => idle_services(&plugin.steps),
@@ -77,6 +78,13 @@ fn idle_of_reports(plugin: &ReportsPlugin) -> Option<Idle> {
 
 fn idle_editor(found: Result<Option<Unedited>, AllocError>) -> Result<Option<Idle>, AllocError> {
     Ok(found?.map(Idle::Unedited))
+}
+
+fn idle_pmt(plugin: &EditPmt) -> Result<Option<Idle>, AllocError> {
+    if let Some(why) = plugin.steps.unedited()? {
+        return Ok(Some(Idle::Unedited(why)));
+    }
+    Ok(plugin.steps.unnamed()?.map(idle_name))
 }
 
 fn idle_services(steps: &ServiceSteps) -> Result<Option<Idle>, AllocError> {

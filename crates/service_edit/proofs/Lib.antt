@@ -1,3 +1,4 @@
 -- The lemmas of edits of a service's PMTs.
+mod NumberLemmas
 pub mod StepLemmas
 mod Rows

@@ -1,4 +1,4 @@
 -- The definitions of edits of the tables on the PID of a service's PMT.
-pub mod EditorState
+pub mod NumberRule
 pub mod ServiceRule
 pub mod ServiceState

@@ -1,13 +1,17 @@
-//! An edit that each PID gets a copy of.
+//! An edit of the tables of a service, which may be another one at each packet.
 
-use plug_psi::TableEdit;
-use std::alloc::{AllocError, Global};
+use varied_edits::EditFrom;
 
-/// An edit of tables that can be copied: each PID on which the service has its PMT gets one.
-pub trait ServiceTableEdit: TableEdit + Drop {
-    ghost use Rattle.std.specs.Prelude.{◌≡◌, IfOk};
+/// An edit of tables that is made from the number of a service and from what does not change.
+pub trait ServiceTableEdit: EditFrom {
+    ghost use Rattle.std.specs.Prelude.{◌≡◌, ℕ, List};
+    ghost use Rattle.plug_psi.specs.Edits.{Change};
 
-    /// An edit that makes the same of tables.
-    fn copy(&self, alloc: Global) -> Result<Self, AllocError>
-        ensures { IfOk result (λ edit. Self.change edit ≡ Self.change self.now) };
+    /// What the edit of each service makes of tables, whichever service is set.
+    ghost change_of: { Self.Source → ℕ → List (List ℕ) → Change };
+
+    /// Sets the service whose tables are edited.
+    fn set_service(source: &mut Self::Source, service: u16)
+        ensures set { Self.made_from source.new ≡ change_of source.old service }
+        ensures same { change_of source.new ≡ change_of source.old };
 }

@@ -127,7 +127,7 @@ pub(crate) fn of_faults() -> &'static [Row] {
     &FAULT_ROWS
 }
 
-static FAULT_ROWS: [Row; 34] = [
+static FAULT_ROWS: [Row; 36] = [
     row!(
         "a packet is missing",
         "--fail-on-faults -I file in -P continuity -O drop",
@@ -232,6 +232,16 @@ static FAULT_ROWS: [Row; 34] = [
         "pmt edits the table of its service",
         "--fail-on-faults -I file in -P pmt --service 1 --increment-version -O drop",
         Input::Tables(&[Carried::SharedPat, Carried::PmtOf2, Carried::Pmt])
+    ),
+    row!(
+        "pmt finds no service of a name",
+        "--fail-on-faults -I file in -P sdt --service 1 --name one -P pmt --service two --increment-version -O drop",
+        Input::Tables(&[Carried::Pat, Carried::Sdt, Carried::Pmt])
+    ),
+    row!(
+        "pmt edits the table of a named service",
+        "--fail-on-faults -I file in -P sdt --service 1 --name one -P pmt --service one --increment-version -O drop",
+        Input::Tables(&[Carried::Pat, Carried::Sdt, Carried::Pmt])
     ),
     row!(
         "sdt finds no table",

@@ -9,7 +9,7 @@ pub(crate) fn rows() -> &'static [Row] {
     &EDIT_ROWS
 }
 
-static EDIT_ROWS: [Row; 11] = [
+static EDIT_ROWS: [Row; 13] = [
     Row {
         name: "cat puts in a system",
         words: "-I file in -P cat --add-ca 0x1800/256 --increment-version -O file out",
@@ -56,6 +56,18 @@ static EDIT_ROWS: [Row; 11] = [
     Row {
         name: "pmt drops the packets of a component of its service, and not those of its PMT",
         words: "-I file in -P pmt --service 1 --remove-pid 17,4096 --drop -O file out",
+        input: Input::Tables(&[Carried::Pat, Carried::Sdt, Carried::Pmt]),
+        plan: ORDINARY,
+    },
+    Row {
+        name: "pmt by a name edits from the SDT on by which its service has it",
+        words: "-I file in -P sdt --service 1 --name one --increment-version -P pmt --service one --move-pid 257/300 -O file out",
+        input: Input::Tables(&[Carried::Pat, Carried::Pmt, Carried::Sdt, Carried::Pmt]),
+        plan: ORDINARY,
+    },
+    Row {
+        name: "pmt edits nothing where no service has the name",
+        words: "-I file in -P sdt --service 1 --name one --increment-version -P pmt --service two --move-pid 257/300 -O file out",
         input: Input::Tables(&[Carried::Pat, Carried::Sdt, Carried::Pmt]),
         plan: ORDINARY,
     },

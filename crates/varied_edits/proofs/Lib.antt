@@ -1,2 +1,3 @@
 -- The lemmas of `varied_edits`.
+pub mod AskedTables
 pub mod PidsVary

@@ -1,23 +1,21 @@
 -- Editors of PIDs whose edits may change, one packet more.
-use Rattle.std.proofs.Common.{◌≡◌, ℕ, ◌<◌, ◌==◌, ◌&&◌, Bool, true, false, List, [], ◌∷◌, ◌++◌, length, refl, sym, ◌∙◌, ap, arith, subst}
-use Rattle.std.specs.Prelude.{OnOk, Option, None, Some, Result, Ok, Err, nat_eq}
+use Rattle.std.proofs.Common.{◌≡◌, ℕ, ◌==◌, ◌&&◌, Bool, true, false, List, [], ◌∷◌, ◌++◌, length, refl, sym, ◌∙◌, ap, arith, subst}
+use Rattle.std.specs.Prelude.{IfOk, OnOk, Option, None, Some, Result, Ok, Err, nat_eq}
 use Rattle.std.specs.Map.{lookup}
 use Rattle.std.proofs.lemmas.Bool.{eqb-true}
 use Rattle.std.proofs.lemmas.Bool.Decides.{nat_tests}
 use Rattle.indexmap.specs.IndexMap.{IndexMap, get}
 use Rattle.ts_packet.specs.Header.{pid_of}
-use Rattle.ts_demux.specs.PidTables as demuxing
 use Rattle.ts_demux.specs.TakenWhere.{taken_on}
 use Rattle.ts_demux.proofs.TakenLemmas.{taken-none, taken-other, taken-own}
 use Rattle.ts_packetize.specs.Cycle.{CycleState}
-use Rattle.plug_psi.specs.CycleStands.{InCyclesBy}
 use Rattle.plug_psi.specs.EditedCycles.{EditsInUse}
 use Rattle.plug_psi.specs.Edits.{Change}
 use Rattle.plug_psi.specs.EditorState.{Edits}
 use Rattle.plug_psi.specs.InUse.{EditAsMet, edits_on}
 use Rattle.plug_psi.specs.declared.contents.Contents.{Contents}
 use Rattle.plug_psi.proofs.InUseLemmas.{edits-before, edits-here, known-before}
-use Rattle.varied_edits.specs.VariedStands.{EntryVaries, VariesOn}
+use Rattle.varied_edits.specs.VariedStands.{EntryVaries}
 use Rattle.varied_edits.specs.declared.varied_on.VariedOn.{VariedOn}
 
 -- an editor's parts that took nothing know nothing of edits
@@ -99,3 +97,8 @@ module _ {E S : Type 0} (change : E → List (List ℕ) → Change) (follows : �
 pub on-ok : {T X : Type 0} {A B : Type 0} (r : Result T X) → OnOk r A → (A → B) → OnOk r B
 on-ok (Ok t) a f = f a
 on-ok (Err e) a f = tt
+
+-- the same of what is returned
+pub if-ok : {T X : Type 0} {A B : T → Type 0} (r : Result T X) → IfOk r A → ((t : T) → A t → B t) → IfOk r B
+if-ok (Ok t) a f = f t a
+if-ok (Err e) a f = tt

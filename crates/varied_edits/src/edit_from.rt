@@ -9,7 +9,7 @@ pub trait EditFrom: TableEdit + Drop {
     ghost use Rattle.plug_psi.specs.Edits.{Change};
 
     /// What it is made from.
-    type Source;
+    type Source: Drop;
 
     /// What the edit that is made from this makes of tables.
     ghost made_from: { Self.Source → List (List ℕ) → Change };

@@ -4,12 +4,14 @@
 #![tactic(auto)]
 
 mod edit_from;
+mod edited_packet;
 mod fixed_pid;
 mod varied_laws;
 mod varied_on;
 mod varied_pids;
 
 pub use edit_from::EditFrom;
+pub use edited_packet::EditedPacket;
 pub use fixed_pid::take_from;
 pub use varied_laws::untaken_packets_change_nothing;
 pub use varied_on::VariedOn;

@@ -1,10 +1,12 @@
 //! The editor of a PID whose packets are taken at some positions.
 
-ghost use Rattle.std.specs.Prelude.{◌≡◌, ◌<◌, ◌++◌, ◌∷◌, ℕ, [], List, IfOk, OnOk, length};
+ghost use Rattle.std.specs.Prelude.{◌≡◌, ◌<◌, ◌||◌, ◌++◌, ◌∷◌, ℕ, [], List, IfOk, OnOk, length};
 ghost use Rattle.plug_psi.specs.CycleStands.{InCyclesBy, edit_of};
 ghost use Rattle.plug_psi.specs.EditedCycles.{EditsInUse, replaced_by};
+ghost use Rattle.varied_edits.specs.CompletedTables.{alters_with};
 
 use crate::edit_from::EditFrom;
+use crate::edited_packet::EditedPacket;
 use plug_psi::{CycleEditor, SeesChanges};
 use std::alloc::{AllocError, Global};
 use ts_demux::{ChangedTable, PidTables};
@@ -37,26 +39,35 @@ impl<E: EditFrom> VariedOn<E> {
         Ok(VariedOn { tables, editor })
     }
 
-    /// Takes the next packet of the PID, which has a position, where the edit is made from what is in force with this packet,
-    /// and returns the packet for its place. After `AllocError` it is not to be used any more.
+    /// Takes the next packet of the PID, which has a position, where the edit is made from what is in force with this packet.
+    /// Returns the packet for its place, and whether the edit alters a table that this packet completes, or one is known to
+    /// be altered before; then no table is tried. After `AllocError` it is not to be used any more.
     pub(crate) fn take(
         &mut self,
         alloc: Global,
         at: u64,
+        before: bool,
         source: &E::Source,
         packet: &Packet,
-    ) -> Result<Packet, AllocError>
+    ) -> Result<EditedPacket, AllocError>
         ensures replaced { IfOk result (λ new. (pid : ℕ) (edits : EditsInUse) (taken : List (List ℕ))
             → VariesOn (E.change (edit_on self.old)) self.old pid edits taken → edits (length taken) ≡ E.made_from source.now
-            → new ≡ replaced_by pid edits taken packet.now) }
+            → new.packet ≡ replaced_by pid edits taken packet.now) }
+        ensures altered { IfOk result (λ new. (pid : ℕ) (edits : EditsInUse) (taken : List (List ℕ))
+            → VariesOn (E.change (edit_on self.old)) self.old pid edits taken
+            → new.altered ≡ (before || alters_with pid (E.made_from source.now) taken packet.now)) }
         ensures stands { OnOk result ((pid : ℕ) (edits : EditsInUse) (taken : List (List ℕ))
             → VariesOn (E.change (edit_on self.old)) self.old pid edits taken → edits (length taken) ≡ E.made_from source.now
             → VariesOn (E.change (edit_on self.new)) self.new pid edits (taken ++ packet.now ∷ [])) }
     {
         renew(alloc, source, &mut self.editor)?;
         let tables = self.tables.take(at, packet)?;
+        let altered = self.editor.alters_one(alloc, tables.as_slice(), before)?;
         let new = self.editor.advance(alloc, tables, packet)?;
-        Ok(new)
+        Ok(EditedPacket {
+            packet: new,
+            altered,
+        })
     }
 }
 

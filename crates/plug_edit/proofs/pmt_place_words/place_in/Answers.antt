@@ -10,16 +10,16 @@ pub returns-in_err-pid-clause-reads : goal.returns-in_err-pid-clause-reads
 returns-in_err-pid-clause-reads c =
     refused_for _ _ _ _ _ c.from_residual.ensures.1 c.in_err-pid.ensures.reads (malformed pmt_rows c.args.found.now 0 _ refl)
 
-pub returns-in_err-service-clause-reads : goal.returns-in_err-service-clause-reads
-returns-in_err-service-clause-reads c =
-    refused_for _ _ _ _ _ c.from_residual-in_err-service.ensures.1 c.in_err-service.ensures.reads (malformed pmt_rows c.args.found.now 1 _ refl)
+pub returns-in_err-word-clause-reads : goal.returns-in_err-word-clause-reads
+returns-in_err-word-clause-reads c =
+    refused_for _ _ _ _ _ c.from_residual-in_err-word.ensures.1 c.in_err-word.ensures.reads (malformed pmt_rows c.args.found.now 1 _ refl)
 
 pub returns-clause-reads : goal.returns-clause-reads
 returns-clause-reads c = (
-  all_true _ _ c.in_ok-pid.ensures.reads.0 (all_true _ _ c.in_ok-service.ensures.reads.0 refl),
-  c.place_of.ensures ∙ ap₂ place_of c.in_ok-service.ensures.reads.1 c.in_ok-pid.ensures.reads.1,
+  all_true _ _ c.in_ok-pid.ensures.reads.0 (all_true _ _ c.in_ok-word.ensures.reads.0 refl),
+  c.place_of.ensures ∙ ap₂ place_of c.in_ok-word.ensures.reads.1 c.in_ok-pid.ensures.reads.1,
 )
 
 pub returns-clause-valid : goal.returns-clause-valid
 returns-clause-valid c =
-    subst IsPlace (sym c.place_of.ensures) (is-place c.in_ok-service.service c.in_ok-pid.pid c.in_ok-service.ensures.range c.in_ok-pid.ensures.range.1)
+    subst IsPlace (sym c.place_of.ensures) (is-place c.in_ok-word.word c.in_ok-pid.pid c.in_ok-word.ensures.says c.in_ok-pid.ensures.range.1)

@@ -2,7 +2,7 @@
 
 use ts_packet::Packet;
 
-/// A packet of edited tables, and whether a table came up to it that the edit alters.
+/// A packet of edited tables, and whether a table is known that the edit alters.
 #[derive(Drop)]
 pub struct EditedPacket {
     pub packet: Packet,
